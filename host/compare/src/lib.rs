@@ -1,0 +1,8 @@
+//! Calls for the port to repeat, each with the answer that the Rust gives.
+//!
+//! The port is a program of its own: it reads records from its standard input, repeats each call
+//! and says how many answers differ. Nothing of it is linked here.
+
+pub mod accounts;
+pub mod program;
+pub mod random;
