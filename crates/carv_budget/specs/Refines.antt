@@ -9,7 +9,7 @@ use Rattle.carv_budget.specs.declared.Answer.{Answer}
 use Rattle.carv_budget.specs.declared.Answer.the-variants.{Done, Renewed, NotDue, CpuBudgetExceedsPeriod, MemoryUnderflow, CpuLimitReached, MemoryLimitReached, CpuLimitExceeded, MemoryLimitExceeded, ReservationUnderflow}
 use Rattle.carv_budget.specs.declared.Outcome.{Outcome}
 use Rattle.carv_budget.specs.declared.CarveOut.{CarveOut}
-use Rattle.carv_budget.specs.Account.{period, sound, with-cpu, due, renew, spent, carved, returnable, blank, free, return, outcome, carve-outcome, open-account, refill, charge-cpu, charge-memory, release-memory, carve-out, release-child}
+use Rattle.carv_budget.specs.Account.{period, sound, with-cpu, due, renew, spent, carved, returnable, blank, fresh, free, spend, charge, credit, reserve, return, outcome, carve-outcome, open-account, refill, charge-cpu, charge-memory, release-memory, carve-out, release-child}
 use Rattle.carv_budget.specs.Rust as rust
 use Rattle.carv_budget.specs.Rust.{BudgetError, zero-period, cpu-budget-exceeds-period, cpu-limit-exceeded, memory-limit-exceeded, memory-limit-reached, memory-underflow, reservation-underflow, Result, ok, err, Call, gives}
 
@@ -140,3 +140,40 @@ pub release-child-rust : (a child : Account) → sound a ≡ true → sound chil
 unfolding rust.release-child returnable
 release-child-rust a child p q =
     rw (p, q, over (child .«cpu_allowance») (a .«cpu_reserved»), over (child .«memory_limit») (a .«memory_reserved»)) (simp neither (answer-by (returnable a child) reservation-underflow a (return a child)))
+
+-- Each method by 01's questions, and a renewal beside a memory charge: what the crates above go by.
+
+flipped : {A : Type 0} (b : Bool) (x y : A) → cond (not b) x y ≡ cond b y x
+flipped true x y = refl
+flipped false x y = refl
+
+pub charge-memory-by : (a : Account) (bytes : ℕ) → rust.charge-memory a bytes ≡ cond (leb bytes (free a)) (gives (charge a bytes) (ok tt)) (gives a (err memory-limit-reached))
+unfolding rust.charge-memory
+charge-memory-by a bytes = rw (over bytes (free a)) (flipped (leb bytes (free a)) _ _)
+
+pub release-memory-by : (a : Account) (bytes : ℕ) → rust.release-memory a bytes ≡ cond (leb bytes (a .«memory_used»)) (gives (credit a bytes) (ok tt)) (gives a (err memory-underflow))
+unfolding rust.release-memory
+release-memory-by a bytes = rw (over bytes (a .«memory_used»)) (flipped (leb bytes (a .«memory_used»)) _ _)
+
+pub charge-cpu-by : (a : Account) (ns time : ℕ) → rust.charge-cpu a ns time ≡ cond (leb ns (renew a time .«cpu_left»)) (gives (spend (renew a time) ns) true) (gives (renew a time) false)
+unfolding rust.charge-cpu-refilled
+charge-cpu-by a ns time = rw (refill-renews a time, over ns (renew a time .«cpu_left»)) (flipped (leb ns (renew a time .«cpu_left»)) _ _)
+
+pub carve-out-by : (a : Account) (ns bytes time : ℕ) → rust.carve-out a ns bytes time
+    ≡ cond (leb ns (renew a time .«cpu_left»))
+    (cond (leb bytes (free (renew a time))) (gives (reserve (renew a time) ns bytes) (ok (fresh ns bytes (renew a time .«period_start»))))
+    (gives (renew a time) (err memory-limit-exceeded)))
+    (gives (renew a time) (err cpu-limit-exceeded))
+unfolding rust.carve-out-refilled
+carve-out-by a ns bytes time =
+    rw (refill-renews a time, over ns (renew a time .«cpu_left»), over bytes (free (renew a time)), flipped (leb bytes (free (renew a time))))
+    (flipped (leb ns (renew a time .«cpu_left»)) _ _)
+
+pub release-child-by : (a child : Account) → rust.release-child true a child ≡ cond (returnable a child) (gives (return a child) (ok tt)) (gives a (err reservation-underflow))
+unfolding rust.release-child returnable
+release-child-by a child =
+    rw (over (child .«cpu_allowance») (a .«cpu_reserved»), over (child .«memory_limit») (a .«memory_reserved»)) (simp neither (flipped (returnable a child) _ _))
+
+pub renew-charged : (a : Account) (bytes time : ℕ) → renew (charge a bytes) time ≡ charge (renew a time) bytes
+unfolding renew due
+renew-charged a bytes time = refl

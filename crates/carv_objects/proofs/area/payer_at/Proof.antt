@@ -1,0 +1,20 @@
+-- `carv_objects::area::payer_at` meets its contract. Assumes nothing.
+use borrow.Author.Needs.{needs}
+use native.Mathlib.Omega.{arith}
+use Rattle.carv_objects.specs.Area.{table}
+use Rattle.carv_objects.specs.AreaSteps.{entry-room, payer-is}
+use Rattle.carv_objects.proofs.area.payer_at.Statement.{statement}
+use Rattle.carv_objects.proofs.area.payer_at.Tie as tie
+
+pub payer-at-spec : {M : Type 1} → statement M
+unfolding table
+payer-at-spec =
+    tie.close
+    (tie.spec
+    (λ c. search needs)  -- sub-get
+    (λ c. search needs)  -- part-get-start
+    (λ c. search needs)  -- part-get-end
+    (λ c. omega (arith, entry-room _ (c .before .before .pre .0) _ (c .before .before .pre .1)))  -- mul-get
+    (λ c. omega (arith, entry-room _ (c .before .before .pre .0) _ (c .before .before .pre .1)))  -- add-get
+    (λ c κs. omega (arith, entry-room _ (c .before .before .pre .0) _ (c .before .before .pre .1)))  -- get-requires
+    (λ c. payer-is _ (c .before .before .before .pre .0) _ (c .before .before .before .pre .1) _ (c .get .ensures)))  -- returns

@@ -1,0 +1,15 @@
+-- `carv_objects::area::set_account` meets its contract. Assumes nothing.
+use borrow.Author.Needs.{needs}
+use Rattle.carv_objects.specs.Formed.{leaves-as}
+use Rattle.carv_objects.specs.AreaSteps.{account-set}
+use Rattle.carv_objects.proofs.area.set_account.Statement.{statement}
+use Rattle.carv_objects.proofs.area.set_account.Tie as tie
+
+pub set-account-spec : {M : Type 1} → statement M
+set-account-spec =
+    tie.close
+    (tie.spec
+    (λ c κs. search needs)  -- entry-at-requires
+    (λ c κs. search needs)  -- set-entry-requires
+    (λ c. search needs)  -- same-length
+    (λ c. leaves-as _ _ _ (account-set _ _ _ (c .before .before .before .before .before .before .before .pre .1) _ (c .before .before .before .before .entry-at .ensures) _) (c .before .before .set-entry .ensures)))  -- returns

@@ -1,0 +1,17 @@
+-- `carv_objects::calls::payer_place` meets its contract. Assumes nothing.
+use borrow.Author.Needs.{needs}
+use Rattle.carv_objects.specs.AreaSteps.{located-here}
+use Rattle.carv_objects.specs.CallSteps.{place-of}
+use Rattle.carv_objects.specs.Area.{decode}
+use Rattle.carv_objects.proofs.calls.payer_place.Statement.{statement}
+use Rattle.carv_objects.proofs.calls.payer_place.Tie as tie
+
+pub payer-place-spec : {M : Type 1} → statement M
+payer-place-spec =
+    tie.close
+    (tie.spec
+    (λ c κs. search needs)  -- find-requires
+    (λ c. search needs)  -- enum-known-i
+    (λ c. search needs)  -- enum-told
+    (λ c. (located-here ((decode (c .before .before .before .before .before .args .a .now)) .rows) _ _ (c .before .before .before .find .ensures) _ (c .before .i .given .1)))  -- returns
+    (λ c. place-of (decode (c .before .before .before .before .args .a .now)) _ (c .before .before .before .before .pre .1) _ (c .before .before .find .ensures) (c .enum-told .given .1) _))  -- returns-2

@@ -1,0 +1,151 @@
+// The object registry: objects under rising ids, each paid for by a budget, and the budgets' accounts.
+// After kernel/src/objects.rs and the kinds of carv-abi.
+mod accounts;
+mod area;
+mod c;
+mod calls;
+mod kinds;
+mod opening;
+mod rows;
+mod sound;
+
+use carv_budget::Account;
+pub use kinds::Kind;
+pub use kinds::KindCode;
+pub use opening::open;
+pub use sound::is_sound;
+ghost use Rattle.carv_objects.specs.Registry.{create, insert, create-budget, charge-more, uncharge, remove, refill, charge-cpu, pays-for-anything, read-account, charge-of};
+ghost use Rattle.carv_objects.specs.Area.{Answered, Opened};
+
+// What stands under an id. An entry that is no budget has a blank account.
+pub struct Entry {
+    pub kind: u64,
+    pub payer: u64,
+    pub charge: u64,
+    pub account: Account,
+}
+
+// What a call answers: specs/Answer.antt gives document 01's number and the values.
+pub enum Answer {
+    Done,
+    Id(u64),
+    Renewed,
+    NotDue,
+    Pays,
+    PaysNothing,
+    Figures(Account),
+    Charge(u64, u64),
+    Refused(u64),
+}
+
+// The calls, each with question 1 in front.
+
+// A new object of this kind.
+pub fn create(area: &mut [u8], kind: u64, payer: u64, backing: bool) -> Answer
+    ensures { λ r. ⌜ Answered (create kind payer backing) (now (area .entry)) r (now (area .exit)) ⌝ }
+{
+    if !is_sound(area) {
+        return Answer::Refused(1);
+    }
+    calls::create(area, kind, payer, backing)
+}
+
+// An object of this kind that takes this many bytes.
+pub fn insert(area: &mut [u8], kind: u64, payer: u64, bytes: u64) -> Answer
+    ensures { λ r. ⌜ Answered (insert kind payer bytes) (now (area .entry)) r (now (area .exit)) ⌝ }
+{
+    if !is_sound(area) {
+        return Answer::Refused(1);
+    }
+    calls::insert(area, kind, payer, bytes)
+}
+
+// A budget carved out of its parent.
+pub fn create_budget(area: &mut [u8], parent: u64, cpu: u64, memory: u64, time: u64) -> Answer
+    ensures { λ r. ⌜ Answered (create-budget parent cpu memory time) (now (area .entry)) r (now (area .exit)) ⌝ }
+{
+    if !is_sound(area) {
+        return Answer::Refused(1);
+    }
+    calls::create_budget(area, parent, cpu, memory, time)
+}
+
+// More bytes charged for an object.
+pub fn charge_more(area: &mut [u8], id: u64, bytes: u64) -> Answer
+    ensures { λ r. ⌜ Answered (charge-more id bytes) (now (area .entry)) r (now (area .exit)) ⌝ }
+{
+    if !is_sound(area) {
+        return Answer::Refused(1);
+    }
+    calls::charge_more(area, id, bytes)
+}
+
+// Bytes of an object credited.
+pub fn uncharge(area: &mut [u8], id: u64, bytes: u64) -> Answer
+    ensures { λ r. ⌜ Answered (uncharge id bytes) (now (area .entry)) r (now (area .exit)) ⌝ }
+{
+    if !is_sound(area) {
+        return Answer::Refused(1);
+    }
+    calls::uncharge(area, id, bytes)
+}
+
+// An object taken out.
+pub fn remove(area: &mut [u8], id: u64) -> Answer
+    ensures { λ r. ⌜ Answered (remove id) (now (area .entry)) r (now (area .exit)) ⌝ }
+{
+    if !is_sound(area) {
+        return Answer::Refused(1);
+    }
+    calls::remove(area, id)
+}
+
+// The renewal of a budget.
+pub fn refill(area: &mut [u8], id: u64, time: u64) -> Answer
+    ensures { λ r. ⌜ Answered (refill id time) (now (area .entry)) r (now (area .exit)) ⌝ }
+{
+    if !is_sound(area) {
+        return Answer::Refused(1);
+    }
+    calls::refill(area, id, time)
+}
+
+// CPU time charged to a budget.
+pub fn charge_cpu(area: &mut [u8], id: u64, ns: u64, time: u64) -> Answer
+    ensures { λ r. ⌜ Answered (charge-cpu id ns time) (now (area .entry)) r (now (area .exit)) ⌝ }
+{
+    if !is_sound(area) {
+        return Answer::Refused(1);
+    }
+    calls::charge_cpu(area, id, ns, time)
+}
+
+// Does another object have this payer?
+pub fn pays_for_anything(area: &[u8], id: u64) -> Answer
+    ensures { λ r. ⌜ Answered (pays-for-anything id) (now (area .entry)) r (now (area .entry)) ⌝ }
+{
+    if !is_sound(area) {
+        return Answer::Refused(1);
+    }
+    calls::pays_for_anything(area, id)
+}
+
+// The account of a budget.
+pub fn account(area: &[u8], id: u64) -> Answer
+    ensures { λ r. ⌜ Answered (read-account id) (now (area .entry)) r (now (area .entry)) ⌝ }
+{
+    if !is_sound(area) {
+        return Answer::Refused(1);
+    }
+    calls::account(area, id)
+}
+
+// The payer and the charge of an object.
+pub fn charge_of(area: &[u8], id: u64) -> Answer
+    ensures { λ r. ⌜ Answered (charge-of id) (now (area .entry)) r (now (area .entry)) ⌝ }
+{
+    if !is_sound(area) {
+        return Answer::Refused(1);
+    }
+    calls::charge_of(area, id)
+}
