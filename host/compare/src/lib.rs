@@ -4,5 +4,6 @@
 //! and says how many answers differ. Nothing of it is linked here.
 
 pub mod accounts;
+pub mod draw;
 pub mod program;
 pub mod random;

@@ -1,7 +1,7 @@
 //! Makes up account calls, edges more often than chance gives them.
 
 use super::{Op, Record, is_sound};
-use crate::random::Random;
+use crate::draw::Draw;
 use carv_oracle::account::{self, Account, PERIOD};
 
 /// Records without end: steps of a walk, calls on accounts made up for them, and damaged ones.
@@ -13,9 +13,7 @@ pub struct Records {
 impl Records {
     /// Records that depend on the seed alone.
     pub fn new(seed: u64) -> Self {
-        let mut draw = Draw {
-            random: Random::new(seed),
-        };
+        let mut draw = Draw::new(seed);
         let walk = Walk::new(draw.account());
         Self { draw, walk }
     }
@@ -120,62 +118,7 @@ impl Walk {
     }
 }
 
-/// Numbers that are edges anywhere.
-const EDGES: [u64; 14] = [
-    0,
-    1,
-    2,
-    127,
-    128,
-    4_096,
-    1_000_000,
-    PERIOD - 1,
-    PERIOD,
-    PERIOD + 1,
-    (1 << 63) - 1,
-    1 << 63,
-    u64::MAX - 1,
-    u64::MAX,
-];
-
-/// Draws figures, with edges more often than chance gives them.
-struct Draw {
-    random: Random,
-}
-
 impl Draw {
-    /// Any number: an edge, or one of any width.
-    fn number(&mut self) -> u64 {
-        if self.random.one_in(3) {
-            self.random.of(&EDGES)
-        } else {
-            self.random.word() >> self.random.below(64)
-        }
-    }
-
-    /// A number from 0 to `limit`.
-    fn within(&mut self, limit: u64) -> u64 {
-        match self.random.below(8) {
-            0 => 0,
-            1 => limit.min(1),
-            2 => limit - limit.min(1),
-            3 => limit,
-            4 | 5 => self.random.through(limit),
-            _ => self.random.through(limit / 16),
-        }
-    }
-
-    /// An amount at, next to or below `limit`, or any number.
-    fn amount(&mut self, limit: u64) -> u64 {
-        match self.random.below(8) {
-            0 => limit.saturating_add(1),
-            1 => limit.saturating_sub(1),
-            2 => limit,
-            3 => self.number(),
-            _ => self.within(limit),
-        }
-    }
-
     /// Two numbers whose sum is at most `limit`.
     fn two_within(&mut self, limit: u64) -> (u64, u64) {
         let first = self.within(limit);
@@ -195,12 +138,6 @@ impl Draw {
             1 => u64::MAX - self.amount(PERIOD),
             _ => self.beside(whole_periods),
         }
-    }
-
-    /// `time`, or a nanosecond earlier or later.
-    fn beside(&mut self, time: u64) -> u64 {
-        let shift = self.random.below(3);
-        time.wrapping_add(shift).wrapping_sub(1)
     }
 
     /// A time to call at, for an account whose period began at `start`.
