@@ -28,3 +28,4 @@ pub mod CallSteps
 pub mod Opening
 pub mod C
 pub mod Entry
+pub mod Edges

@@ -5,5 +5,6 @@
 
 pub mod accounts;
 pub mod draw;
+pub mod objects;
 pub mod program;
 pub mod random;

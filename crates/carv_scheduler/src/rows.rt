@@ -1,0 +1,174 @@
+// The thread table: one thread record in each row of 21 words.
+use crate::Context;
+use crate::Payer;
+use crate::Results;
+use crate::Space;
+use crate::Thread;
+use crate::Wait;
+ghost use mathlib.Core.Path.{_≡_};
+ghost use Prim.Native.Nat.{_+_, _*_, _≤_};
+ghost use lib.ListN.{length};
+ghost use Rattle.carv_area.specs.Words.{words};
+ghost use Rattle.carv_scheduler.specs.Area.{wait-at, payer-at, space-at, context-at, results-at, thread-at};
+ghost use Rattle.carv_scheduler.specs.Rows.{row, set-start, set-place, set-context, set-end, set-thread};
+
+fn read_wait(t: &[u8], o: usize) -> Wait
+    requires { ⌜ o * 8 + 16 ≤ length (now t) ⌝ }
+    ensures { λ r. ⌜ r ≡ wait-at (words (now (t .entry))) o ⌝ }
+{
+    let kind = carv_area::get(t, o);
+    let number = carv_area::get(t, o + 1);
+    Wait { kind, number }
+}
+
+fn read_payer(t: &[u8], o: usize) -> Payer
+    requires { ⌜ o * 8 + 16 ≤ length (now t) ⌝ }
+    ensures { λ r. ⌜ r ≡ payer-at (words (now (t .entry))) o ⌝ }
+{
+    let is = carv_area::get(t, o);
+    let id = carv_area::get(t, o + 1);
+    Payer { is, id }
+}
+
+fn read_space(t: &[u8], o: usize) -> Space
+    requires { ⌜ o * 8 + 32 ≤ length (now t) ⌝ }
+    ensures { λ r. ⌜ r ≡ space-at (words (now (t .entry))) o ⌝ }
+{
+    let is = carv_area::get(t, o);
+    let space = carv_area::get(t, o + 1);
+    let cspace = carv_area::get(t, o + 2);
+    let root = carv_area::get(t, o + 3);
+    Space {
+        is,
+        space,
+        cspace,
+        root,
+    }
+}
+
+fn read_context(t: &[u8], o: usize) -> Context
+    requires { ⌜ o * 8 + 56 ≤ length (now t) ⌝ }
+    ensures { λ r. ⌜ r ≡ context-at (words (now (t .entry))) o ⌝ }
+{
+    let rip = carv_area::get(t, o);
+    let rsp = carv_area::get(t, o + 1);
+    let rflags = carv_area::get(t, o + 2);
+    let rdi = carv_area::get(t, o + 3);
+    let rsi = carv_area::get(t, o + 4);
+    let cs = carv_area::get(t, o + 5);
+    let ss = carv_area::get(t, o + 6);
+    Context {
+        rip,
+        rsp,
+        rflags,
+        rdi,
+        rsi,
+        cs,
+        ss,
+    }
+}
+
+fn read_results(t: &[u8], o: usize) -> Results
+    requires { ⌜ o * 8 + 24 ≤ length (now t) ⌝ }
+    ensures { λ r. ⌜ r ≡ results-at (words (now (t .entry))) o ⌝ }
+{
+    let first = carv_area::get(t, o);
+    let second = carv_area::get(t, o + 1);
+    let third = carv_area::get(t, o + 2);
+    Results {
+        first,
+        second,
+        third,
+    }
+}
+
+// The record at place i of the table t.
+pub fn read_thread(t: &[u8], i: usize) -> Thread
+    requires { ⌜ (i * 21 + 21) * 8 + 8 ≤ length (now t) ⌝ }
+    ensures { λ r. ⌜ r ≡ thread-at (words (now (t .entry))) i .it ⌝ }
+{
+    let o = i * 21;
+    let state = carv_area::get(t, o + 2);
+    let wait = read_wait(t, o + 3);
+    let budget = read_payer(t, o + 5);
+    let place = read_space(t, o + 7);
+    let context = read_context(t, o + 11);
+    let results = read_results(t, o + 18);
+    let ticks = carv_area::get(t, o + 21);
+    Thread {
+        state,
+        wait,
+        budget,
+        place,
+        context,
+        results,
+        ticks,
+    }
+}
+
+// The id, state, wait and budget of the record at place i.
+fn write_start(t: &mut [u8], i: usize, id: u64, state: u64, wait: Wait, budget: Payer)
+    requires { ⌜ (i * 21 + 21) * 8 + 8 ≤ length (now t) ⌝ }
+    ensures { λ _. ⌜ words (now (t .exit)) ≡ set-start (words (now (t .entry))) i id state wait budget ⌝ }
+{
+    let o = i * 21;
+    carv_area::put(t, o + 1, id);
+    carv_area::put(t, o + 2, state);
+    carv_area::put(t, o + 3, wait.kind);
+    carv_area::put(t, o + 4, wait.number);
+    carv_area::put(t, o + 5, budget.is);
+    carv_area::put(t, o + 6, budget.id);
+}
+
+fn write_place(t: &mut [u8], i: usize, place: Space)
+    requires { ⌜ (i * 21 + 21) * 8 + 8 ≤ length (now t) ⌝ }
+    ensures { λ _. ⌜ words (now (t .exit)) ≡ set-place (words (now (t .entry))) i place ⌝ }
+{
+    let o = i * 21;
+    carv_area::put(t, o + 7, place.is);
+    carv_area::put(t, o + 8, place.space);
+    carv_area::put(t, o + 9, place.cspace);
+    carv_area::put(t, o + 10, place.root);
+}
+
+fn write_context(t: &mut [u8], i: usize, context: Context)
+    requires { ⌜ (i * 21 + 21) * 8 + 8 ≤ length (now t) ⌝ }
+    ensures { λ _. ⌜ words (now (t .exit)) ≡ set-context (words (now (t .entry))) i context ⌝ }
+{
+    let o = i * 21;
+    carv_area::put(t, o + 11, context.rip);
+    carv_area::put(t, o + 12, context.rsp);
+    carv_area::put(t, o + 13, context.rflags);
+    carv_area::put(t, o + 14, context.rdi);
+    carv_area::put(t, o + 15, context.rsi);
+    carv_area::put(t, o + 16, context.cs);
+    carv_area::put(t, o + 17, context.ss);
+}
+
+// The results and run ticks of the record at place i.
+fn write_end(t: &mut [u8], i: usize, results: Results, ticks: u64)
+    requires { ⌜ (i * 21 + 21) * 8 + 8 ≤ length (now t) ⌝ }
+    ensures { λ _. ⌜ words (now (t .exit)) ≡ set-end (words (now (t .entry))) i results ticks ⌝ }
+{
+    let o = i * 21;
+    carv_area::put(t, o + 18, results.first);
+    carv_area::put(t, o + 19, results.second);
+    carv_area::put(t, o + 20, results.third);
+    carv_area::put(t, o + 21, ticks);
+}
+
+// The record under the id at place i of the table t.
+pub fn write_thread(t: &mut [u8], i: usize, id: u64, thread: Thread)
+    requires { ⌜ (i * 21 + 21) * 8 + 8 ≤ length (now t) ⌝ }
+    ensures { λ _. ⌜ words (now (t .exit)) ≡ set-thread (words (now (t .entry))) i (row id thread) ⌝ }
+{
+    let wait = thread.wait;
+    let budget = thread.budget;
+    let place = thread.place;
+    let context = thread.context;
+    let results = thread.results;
+    write_start(t, i, id, thread.state, wait, budget);
+    write_place(t, i, place);
+    write_context(t, i, context);
+    write_end(t, i, results, thread.ticks);
+}

@@ -1,0 +1,78 @@
+-- What a record's call answers and leaves, and how many records say otherwise. Assumes nothing.
+use mathlib.Core.Path.{_≡_}
+use mathlib.Core.Bool.{Bool, true, false, cond, _&&_}
+use mathlib.Core.List.{List}
+use Prim.Native.Nat.{ℕ, zero, suc, _+_, _*_}
+use lib.Dec.{eqb, leb}
+use Rattle.carv_budget.specs.declared.Account.{Account}
+use Rattle.carv_objects.specs.declared.Answer.{Answer}
+use Rattle.carv_objects.specs.declared.Answer.the-variants.{Done, Id, Renewed, NotDue, Pays, PaysNothing, Figures, Charge, Refused}
+use Rattle.carv_objects.specs.Registry.{create, insert, create-budget, charge-more, uncharge, remove, refill, charge-cpu, pays-for-anything, read-account, charge-of}
+use Rattle.carv_objects.specs.Area.{Answered, Opened}
+use Rattle.replay_objects.specs.declared.record.Call.{Call}
+use Rattle.replay_objects.specs.declared.record.Reply.{Reply}
+use Rattle.replay_objects.specs.Record.{call, reply}
+
+-- a number with at most two values
+abbrev pub numbered : (number first second : ℕ) → Reply
+numbered n x y = record { number = n; first = x; second = y; third = 0; fourth = 0; fifth = 0; sixth = 0; seventh = 0 }
+
+abbrev pub replied : Answer → Reply
+replied Done = numbered 0 0 0
+replied (Id i) = numbered 0 i 0
+replied Renewed = numbered 0 1 0
+replied NotDue = numbered 0 0 0
+replied Pays = numbered 0 1 0
+replied PaysNothing = numbered 0 0 0
+replied (Figures a) = record {
+  number = 0;
+  first = a .«cpu_allowance»;
+  second = a .«memory_limit»;
+  third = a .«period_start»;
+  fourth = a .«cpu_left»;
+  fifth = a .«cpu_reserved»;
+  sixth = a .«memory_used»;
+  seventh = a .«memory_reserved»;
+}
+replied (Charge p n) = numbered 0 p n
+replied (Refused n) = numbered n 0 0
+
+-- the test of equality
+unfoldable pub same : (a b : Reply) → Bool
+same a b =
+    eqb (a .number) (b .number) && eqb (a .first) (b .first) && eqb (a .second) (b .second) && eqb (a .third) (b .third)
+    && eqb (a .fourth) (b .fourth) && eqb (a .fifth) (b .fifth) && eqb (a .sixth) (b .sixth) && eqb (a .seventh) (b .seventh)
+
+-- the call c, made on the area a, answers x and leaves a′
+pub data Made (c : Call) (a : List ℕ) (x : Answer) (a′ : List ℕ) : Type 0 where
+  opened : c .op ≡ 1 → Opened (c .first) (c .second) a x a′ → Made c a x a′
+  created : c .op ≡ 2 → Answered (create (c .first) (c .second) (eqb (c .third) 1)) a x a′ → Made c a x a′
+  inserted : c .op ≡ 3 → Answered (insert (c .first) (c .second) (c .third)) a x a′ → Made c a x a′
+  carved : c .op ≡ 4 → Answered (create-budget (c .first) (c .second) (c .third) (c .fourth)) a x a′ → Made c a x a′
+  charged : c .op ≡ 5 → Answered (charge-more (c .first) (c .second)) a x a′ → Made c a x a′
+  uncharged : c .op ≡ 6 → Answered (uncharge (c .first) (c .second)) a x a′ → Made c a x a′
+  removed : c .op ≡ 7 → Answered (remove (c .first)) a x a′ → Made c a x a′
+  refilled : c .op ≡ 8 → Answered (refill (c .first) (c .second)) a x a′ → Made c a x a′
+  cpu-charged : c .op ≡ 9 → Answered (charge-cpu (c .first) (c .second) (c .third)) a x a′ → Made c a x a′
+  asked : c .op ≡ 10 → Answered (pays-for-anything (c .first)) a x a → a′ ≡ a → Made c a x a′
+  read : c .op ≡ 11 → Answered (read-account (c .first)) a x a → a′ ≡ a → Made c a x a′
+  charge-read : c .op ≡ 12 → Answered (charge-of (c .first)) a x a → a′ ≡ a → Made c a x a′
+
+-- b tells whether the call c on the area a answers the reply y, and a′ is left; one with an op that is not listed is not made and answers none
+pub data Agrees (c : Call) (y : Reply) (a : List ℕ) (b : Bool) (a′ : List ℕ) : Type 0 where
+  made : (x : Answer) → Made c a x a′ → b ≡ same (replied x) y → Agrees c y a b a′
+  not-listed : (leb 1 (c .op) && leb (c .op) 12) ≡ false → b ≡ false → a′ ≡ a → Agrees c y a b a′
+
+-- one record more: d differences and the area a′, after a number and an area of which `before` holds
+pub record Step (before : ℕ → List ℕ → Type 0) (c : Call) (y : Reply) (d : ℕ) (a′ : List ℕ) : Type 0 where
+  pub count : ℕ
+  pub area : List ℕ
+  pub agrees : Bool
+  pub earlier : before count area
+  pub now : Agrees c y area agrees a′
+  pub counted : d ≡ count + cond agrees 0 1
+
+-- of the first n records of l, replayed from the area a on, d differ, and a′ is left
+unfoldable pub Replayed : (l a : List ℕ) (n d : ℕ) (a′ : List ℕ) → Type 0
+Replayed l a zero d a′ = (d ≡ 0) × (a′ ≡ a)
+Replayed l a (suc n) d a′ = Step (Replayed l a n) (call l (n * 16)) (reply l (n * 16)) d a′
