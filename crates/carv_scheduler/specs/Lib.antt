@@ -14,3 +14,5 @@ pub mod History
 pub mod Demand3
 pub mod Area
 pub mod Rows
+pub mod Formed
+pub mod AreaSteps

@@ -27,8 +27,9 @@ use Rattle.carv_scheduler.specs.declared.Payer.{Payer}
 use Rattle.carv_scheduler.specs.declared.Context.{Context}
 use Rattle.carv_scheduler.specs.declared.Results.{Results}
 use Rattle.carv_scheduler.specs.declared.Thread.{Thread}
+use Rattle.carv_scheduler.specs.declared.Exit.{Exit}
 use Rattle.carv_scheduler.specs.Scheduler as s01
-use Rattle.carv_scheduler.specs.Scheduler.{Board, Answers, Value, no-switch, switch, ended, is-blocked, record-of, figure, exit-cause, Choice, idle, tick-ns, tick-fits, inactive, running, blocked, dead, is, wait, no-wait, wait-listed, cause-listed, is-due, results, become, ticked, with-registry, thread, has, found, or-fresh, without, renew-for, has-time, charge-tick, put-back, choose, switch-to, switch-value, root-of, on-registry}
+use Rattle.carv_scheduler.specs.Scheduler.{Board, Answers, Value, no-switch, switch, ended, is-blocked, record-of, figure, exit-cause, Choice, idle, tick-ns, tick-fits, inactive, running, blocked, dead, is, wait, no-wait, wait-listed, cause-listed, is-due, results, become, ticked, with-registry, thread, has, found, or-fresh, without, renew-for, has-time, charge-tick, put-back, choose, switch-to, switch-value, root-of, exit-in, on-registry}
 use Rattle.carv_scheduler.specs.SoundFacts.{Sound}
 use Rattle.carv_scheduler.specs.Rust as rust
 use Rattle.carv_scheduler.specs.Rust.{Call, gives}
@@ -217,9 +218,17 @@ wakes (i ∷ ids) b =
     let zeros : Results = results 0 0 0 in
     ap (s01.wake-all ids) (ap (λ (a : Answers). a .now) (wake-rust i zeros b) ∙ said-now (has (b .threads) i) (rust.wake i zeros b)) ∙ wakes ids (rust.wake i zeros b .self)
 
+-- the sleepers that are due
+due-one : (n : ℕ) (t : Thread) → rust.is-due n t ≡ is-due n t
+due-one n t = test (is blocked t) (λ a. rw a (test (eqb (t .wait .kind) 5) (λ c. rw c) (λ c. rw c))) (λ a. rw a)
+
+due-same : (n : ℕ) (m : List (Row Thread)) → pick (rust.is-due n) m ≡ pick (is-due n) m
+due-same n [] = refl
+due-same n (r ∷ m) = rw (due-one n (r .it), due-same n m)
+
 pub tick-rust : (n : ℕ) (b : Board) → added (s01.tick n b .number) ≡ false → s01.tick n b ≡ accept none (rust.tick n b) b
 tick-rust n b = skip 3 (tick-fits n) b refl λ _ _.
-    rw (pick-alter (is-due n) (b .threads) (b .current) ticked (λ _. refl), ← charged-thread (at (b .threads) (b .current)) (n * tick-ns) (b .registry))
+    rw (due-same n (alter (b .current) ticked (b .threads)), pick-alter (is-due n) (b .threads) (b .current) ticked (λ _. refl), ← charged-thread (at (b .threads) (b .current)) (n * tick-ns) (b .registry))
     (ap (λ (x : Board). accept {A = Value} none x b) (wakes (pick (is-due n) (b .threads)) _))
 
 -- `plan`.
@@ -348,8 +357,12 @@ read-current-rust b = refl
 pub read-switches-rust : (b : Board) → s01.read-switches b ≡ accept (some (figure (b .switches))) b b
 read-switches-rust b = refl
 
+exit-same : (i : ℕ) (l : List Exit) → exit-in i l ≡ rust.cause-of (rust.find-exit i l)
+exit-same i [] = refl
+exit-same i (e ∷ l) = test (eqb (e .thread) i) (λ a. rw a) (λ a. rw a (exit-same i l))
+
 pub exit-of-rust : (i : ℕ) (b : Board) → s01.exit-of i b ≡ accept (some (exit-cause (rust.exit-of i b))) b b
-exit-of-rust i b = refl
+exit-of-rust i b = ap (λ (x : Option ℕ). accept {A = Value} (some (exit-cause x)) b b) (exit-same i (b .exits))
 
 pub opening-rust : (cpu memory : ℕ) → cpu ≤ account.period → s01.opening cpu memory ≡ rust.new cpu memory
 opening-rust cpu memory h = rw (objects-refines.opening-rust cpu memory h)

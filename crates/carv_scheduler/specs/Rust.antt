@@ -16,7 +16,7 @@ use Rattle.carv_scheduler.specs.declared.Context.{Context}
 use Rattle.carv_scheduler.specs.declared.Results.{Results}
 use Rattle.carv_scheduler.specs.declared.Thread.{Thread}
 use Rattle.carv_scheduler.specs.declared.Exit.{Exit}
-use Rattle.carv_scheduler.specs.Scheduler.{Board, idle, inactive, ready, running, blocked, dead, is, no-wait, wait-of, is-due, payer, no-payer, in-space, results, fresh, become, started, woken, ticked, with-registry, root-of, exit-in}
+use Rattle.carv_scheduler.specs.Scheduler.{Board, idle, inactive, ready, running, blocked, dead, is, no-wait, wait-of, in-space, results, become, started, woken, ticked, with-registry, root-of}
 
 -- what a method leaves and returns
 pub record Call (A : Type 0) : Type 0 where
@@ -60,10 +60,26 @@ remove-at i [] = []
 remove-at zero (t ∷ q) = q
 remove-at (suc i) (t ∷ q) = t ∷ remove-at i q
 
+-- `Tcb::new`, with `UserContext::new(0, 0)`, whose flags are 0x2 and `RFLAGS_IF`, bit 9
+abbrev pub tcb : (state : ℕ) → Thread
+tcb state = record {
+  state = state;
+  wait = no-wait;
+  budget = record { is = 0; id = 0 };
+  place = record { is = 0; space = 0; cspace = 0; root = 0 };
+  context = record { rip = 0; rsp = 0; rflags = 2 + 2 ^ 9; rdi = 0; rsi = 0; cs = 0; ss = 0 };
+  results = record { first = 0; second = 0; third = 0 };
+  ticks = 0;
+}
+
+-- `tcb.budget = Some(budget)`
+abbrev pub on-budget : ℕ → Thread → Thread
+on-budget id t = record { state = t .state; wait = t .wait; budget = record { is = 1; id = id }; place = t .place; context = t .context; results = t .results; ticks = t .ticks }
+
 -- `create_user_thread`
 abbrev pub create-user-thread : (id budget : ℕ) (stack : Bool) → Board → Call (Option (Unit {0}))
 create-user-thread id budget stack self =
-    cond stack (gives (insert-thread id (fresh inactive (payer budget)) self) (some tt))
+    cond stack (gives (insert-thread id (on-budget budget (tcb inactive)) self) (some tt))
     (gives self none)
 
 -- `start`
@@ -118,6 +134,10 @@ kill-found (some t) id why self =
 
 abbrev pub kill : (id why : ℕ) → Board → Call (Option Wait)
 kill id why self = kill-found (thread id self) id why self
+
+-- `matches!(t.state, State::Blocked(Wait::Sleep(at)) if at <= now_ticks)`
+abbrev pub is-due : (now-ticks : ℕ) → Thread → Bool
+is-due now-ticks t = cond (is blocked t) (cond (eqb (t .wait .kind) 5) (leb (t .wait .number) now-ticks) false) false
 
 -- `tick`: the charge, and what is left where that is refused
 abbrev pub charge-or-drain : Account → (now : ℕ) → Account
@@ -226,15 +246,24 @@ plan now-ticks self =
     let p : Position = position now-ns 0 (back .queue) back (back .registry) in
     plan-next old (next-of (p .place) (back .queue)) (with-registry (p .registry) (write-queue (rest-of (p .place) (back .queue)) back))
 
+-- `self.exits.iter().find(|(t, _)| *t == id).map(|(_, e)| *e)`
+abbrev pub find-exit : ℕ → List Exit → Option Exit
+find-exit id [] = none
+find-exit id (e ∷ l) = cond (eqb (e .thread) id) (some e) (find-exit id l)
+
+abbrev pub cause-of : Option Exit → Option ℕ
+cause-of none = none
+cause-of (some e) = some (e .cause)
+
 -- `exit_of`
 abbrev pub exit-of : ℕ → Board → Option ℕ
-exit-of id self = exit-in id (self .exits)
+exit-of id self = cause-of (find-exit id (self .exits))
 
 -- `Scheduler::new`, beside `ObjectRegistry::new`
 abbrev pub new : (cpu memory : ℕ) → Board
 new cpu memory = record {
   registry = objects.new cpu memory;
-  threads = put idle (fresh ready no-payer) (put 0 (fresh running no-payer) []);
+  threads = put idle (tcb ready) (put 0 (tcb running) []);
   queue = [];
   current = 0;
   switches = 0;

@@ -1,5 +1,6 @@
 // Threads, the ready queue and the exit log, and the board of these and the registry. After kernel/src/scheduler.rs.
 
+mod area;
 mod rows;
 
 // What a blocked thread waits for: kind 1 Send, 2 Recv, 3 Reply, 4 Notification, 5 Sleep; 0 where it waits for nothing.

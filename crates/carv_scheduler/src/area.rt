@@ -1,0 +1,128 @@
+// The board's area: its parts, each lent to one function of carv_area or of the rows. docs/LAYOUT.md has the layout.
+use crate::Thread;
+use crate::rows;
+use carv_area::Found;
+ghost use mathlib.Core.Path.{_≡_};
+ghost use mathlib.Core.List.{[], _∷_, _++_};
+ghost use Prim.Native.Nat.{_+_, _*_, _≤_, _<_};
+ghost use lib.ListN.{length, getD, set};
+ghost use Rattle.carv_area.specs.Rows.{removeAt};
+ghost use Rattle.carv_area.specs.Lookup.{Located};
+ghost use Rattle.carv_scheduler.specs.Area.{decode};
+ghost use Rattle.carv_scheduler.specs.Rows.{row, no-row};
+ghost use Rattle.carv_scheduler.specs.Formed.{WellFormed, Leaves};
+ghost use Rattle.carv_scheduler.specs.AreaSteps.{with-head, with-threads, with-queue};
+
+// Where the parts start: the registry stands first.
+const HEAD: usize = 45_072;
+
+const THREADS: usize = 45_088;
+
+const QUEUE: usize = 66_600;
+
+const EXITS: usize = 67_624;
+
+pub const BYTES: usize = 68_144;
+
+// The current thread.
+pub fn current(a: &[u8]) -> u64
+    requires { ⌜ WellFormed (now a) ⌝ }
+    ensures { λ r. ⌜ r ≡ decode (now (a .entry)) .current ⌝ }
+{
+    carv_area::get(&a[HEAD..THREADS], 0)
+}
+
+// How many context switches there were.
+pub fn switches(a: &[u8]) -> u64
+    requires { ⌜ WellFormed (now a) ⌝ }
+    ensures { λ r. ⌜ r ≡ decode (now (a .entry)) .switches ⌝ }
+{
+    carv_area::get(&a[HEAD..THREADS], 1)
+}
+
+// How many threads there are.
+pub fn thread_count(a: &[u8]) -> usize
+    requires { ⌜ WellFormed (now a) ⌝ }
+    ensures { λ r. ⌜ r ≡ length (decode (now (a .entry)) .threads) ⌝ }
+{
+    carv_area::get(&a[THREADS..QUEUE], 0) as usize
+}
+
+// The place of the thread with this id.
+pub fn find_thread(a: &[u8], id: u64) -> Found
+    requires { ⌜ WellFormed (now a) ⌝ }
+    ensures { λ r. ⌜ Located no-row (decode (now (a .entry)) .threads) id r ⌝ }
+{
+    carv_area::find(&a[THREADS..QUEUE], 21, id)
+}
+
+// The id of the thread at place i.
+pub fn thread_id(a: &[u8], i: usize) -> u64
+    requires { ⌜ WellFormed (now a) ⌝ }
+    requires { ⌜ i < length (decode (now a) .threads) ⌝ }
+    ensures { λ r. ⌜ r ≡ getD (decode (now (a .entry)) .threads) i no-row .id ⌝ }
+{
+    carv_area::get(&a[THREADS..QUEUE], i * 21 + 1)
+}
+
+// The record of the thread at place i.
+pub fn thread_at(a: &[u8], i: usize) -> Thread
+    requires { ⌜ WellFormed (now a) ⌝ }
+    requires { ⌜ i < length (decode (now a) .threads) ⌝ }
+    ensures { λ r. ⌜ r ≡ getD (decode (now (a .entry)) .threads) i no-row .it ⌝ }
+{
+    rows::read_thread(&a[THREADS..QUEUE], i)
+}
+
+// The thread id, which stands at place i, has this record.
+pub fn set_thread(a: &mut [u8], i: usize, id: u64, t: Thread)
+    requires { ⌜ WellFormed (now a) ⌝ }
+    requires { ⌜ (i < length (decode (now a) .threads)) × (getD (decode (now a) .threads) i no-row .id ≡ id) ⌝ }
+    ensures { λ _. ⌜ Leaves (now (a .exit)) (with-threads (set (decode (now (a .entry)) .threads) i (row id t)) (decode (now (a .entry)))) ⌝ }
+{
+    rows::write_thread(&mut a[THREADS..QUEUE], i, id, t)
+}
+
+// The thread at place i is taken out.
+pub fn remove_thread(a: &mut [u8], i: usize)
+    requires { ⌜ WellFormed (now a) ⌝ }
+    requires { ⌜ i < length (decode (now a) .threads) ⌝ }
+    ensures { λ _. ⌜ Leaves (now (a .exit)) (with-threads (removeAt (decode (now (a .entry)) .threads) i) (decode (now (a .entry)))) ⌝ }
+{
+    carv_area::remove_row(&mut a[THREADS..QUEUE], 21, i)
+}
+
+// How long the ready queue is.
+pub fn queue_length(a: &[u8]) -> usize
+    requires { ⌜ WellFormed (now a) ⌝ }
+    ensures { λ r. ⌜ r ≡ length (decode (now (a .entry)) .queue) ⌝ }
+{
+    carv_area::get(&a[QUEUE..EXITS], 0) as usize
+}
+
+// The thread at place i of the ready queue.
+pub fn queue_at(a: &[u8], i: usize) -> u64
+    requires { ⌜ WellFormed (now a) ⌝ }
+    requires { ⌜ i < length (decode (now a) .queue) ⌝ }
+    ensures { λ r. ⌜ r ≡ getD (decode (now (a .entry)) .queue) i 0 ⌝ }
+{
+    carv_area::get(&a[QUEUE..EXITS], i + 1)
+}
+
+// A thread at the queue's end.
+pub fn queue_push(a: &mut [u8], id: u64)
+    requires { ⌜ WellFormed (now a) ⌝ }
+    requires { ⌜ length (decode (now a) .queue) < 127 ⌝ }
+    ensures { λ _. ⌜ Leaves (now (a .exit)) (with-queue (decode (now (a .entry)) .queue ++ (id ∷ [])) (decode (now (a .entry)))) ⌝ }
+{
+    carv_area::push(&mut a[QUEUE..EXITS], id)
+}
+
+// The thread at place i leaves the queue.
+pub fn queue_pull(a: &mut [u8], i: usize) -> u64
+    requires { ⌜ WellFormed (now a) ⌝ }
+    requires { ⌜ i < length (decode (now a) .queue) ⌝ }
+    ensures { λ r. ⌜ (r ≡ getD (decode (now (a .entry)) .queue) i 0) × Leaves (now (a .exit)) (with-queue (removeAt (decode (now (a .entry)) .queue) i) (decode (now (a .entry)))) ⌝ }
+{
+    carv_area::pull(&mut a[QUEUE..EXITS], i)
+}
