@@ -2,17 +2,19 @@
 use Prim.Native.Nat.{ℕ, zero, suc, _+_, _*_, _^_, _/_, _≤_, _<_}
 use native.Mathlib.Omega.{arith}
 use mathlib.Core.Path.{_≡_, refl, sym, ap, _∙_, subst}
+use mathlib.Core.Option.{none}
 use mathlib.Core.List.{List, [], _∷_, _++_}
 use lib.ListN.{length, getD, set, length-set}
 use lib.Seq.{getD-set-same, getD-set-other}
-use Rattle.carv_area.specs.Table.{Row, Rising}
+use Rattle.carv_area.specs.Table.{Row, at, put, Rising, rising-put}
 use Rattle.carv_area.specs.Words.{words}
 use Rattle.carv_area.specs.WordLaws.{length-words}
 use Rattle.carv_area.specs.Parts.{part, putPart, length-part}
-use Rattle.carv_area.specs.Moves.{cutRow}
-use Rattle.carv_area.specs.Rows.{removeAt}
+use Rattle.carv_area.specs.Moves.{cutRow, openRow}
+use Rattle.carv_area.specs.Rows.{removeAt, insertAt}
 use Rattle.carv_area.specs.Keys.{keys, findIn}
-use Rattle.carv_area.specs.Stored.{Stored, Keyed, Queue, stored-room, stored-set, stored-remove}
+use Rattle.carv_area.specs.Stored.{Stored, Keyed, Queue, stored-room, stored-set, stored-remove, stored-insert}
+use Rattle.carv_area.specs.Search.{rankIn}
 use Rattle.carv_area.specs.Lookup as lookup
 use Rattle.carv_area.specs.Lookup.{Located, Here, Gone}
 use Rattle.carv_area.specs.declared.Found.{Found}
@@ -44,8 +46,32 @@ module _ (a : List ℕ) (z : length a ≡ 68_144) where
   pub length-queue : length (part 66_600 1_024 a) ≡ 1_024
   length-queue = length-part 66_600 1_024 a (omega arith)
 
+-- the place among rising ids of an id that no thread has
+pub record Placed (m : List (Row Thread)) (x i : ℕ) : Type 0 where
+  pub within : at m x ≡ none → i ≤ length m
+  pub is : at m x ≡ none → (t : Thread) → put x t m ≡ insertAt m i (row x t)
+
+-- no thread has the id, which is a 64-bit number, and there is a place
+pub record New (m : List (Row Thread)) (x : ℕ) : Type 0 where
+  pub fresh : at m x ≡ none
+  pub few : length m < 128
+  pub fits : x < 2 ^ 64
+
 -- What is read of a well-formed area.
 module _ (a : List ℕ) (k : WellFormed a) where
+  pub thread-placed : (x i : ℕ) → i ≡ rankIn (keys 21 (words (threads-part a))) x → Placed (decode a .threads) x i
+  thread-placed x i e =
+      let r : at (decode a .threads) x ≡ none → (i ≤ length (decode a .threads)) × ((t : Thread) → put x t (decode a .threads) ≡ insertAt (decode a .threads) i (row x t)) =
+      λ n. lookup.rows-placed thread-fields 21 wide (λ r. refl) no-row (omega arith) (threads-part a) (decode a .threads) (k .threads) x i e n in
+      record { within = λ n. r n .0; is = λ n. r n .1 }
+
+  -- there is room for one more
+  pub threads-space : length (decode a .threads) < 128 → length (threads-part a) ≡ 21_512 → (getD (words (threads-part a)) 0 0 * 21 + 21 + 1) * 8 ≤ length (threads-part a)
+  threads-space h z = let c : getD (words (threads-part a)) 0 0 ≡ length (decode a .threads) = k .threads .holds .count in rw c (omega arith)
+
+  pub place-counted : (i : ℕ) → i ≤ length (decode a .threads) → i ≤ getD (words (threads-part a)) 0 0
+  place-counted i h = omega (arith, k .threads .holds .count)
+
   pub threads-count : (n : ℕ) → n ≡ getD (words (threads-part a)) 0 0 → n ≡ length (decode a .threads)
   threads-count n e = e ∙ k .threads .holds .count
 
@@ -92,6 +118,15 @@ module _ (a : List ℕ) (k : WellFormed a) (p : List ℕ) where
     thread-set i x t h same q =
         threads-written a k p (set (decode a .threads) i (row x t)) z (stored-set thread-fields 21 wide (threads-part a) p (decode a .threads) (k .threads) i (row x t) h q)
         (rising-set (decode a .threads) 0 (2 ^ 64) i no-row (row x t) (k .rising) (sym same))
+
+    pub thread-inserted : (i x : ℕ) (t : Thread) → Placed (decode a .threads) x i → New (decode a .threads) x → length (threads-part a) ≡ 21_512
+        → words p ≡ set-thread (openRow 21 i (getD (words (threads-part a)) 0 0) (words (threads-part a))) i (row x t)
+        → Leaves (putPart 45_088 21_512 a p) (with-threads (put x t (decode a .threads)) (decode a))
+    unfolding set-thread
+    thread-inserted i x t w n y q =
+        threads-written a k p (put x t (decode a .threads)) z
+        (rw (w .is (n .fresh) t) (stored-insert thread-fields 21 wide (threads-part a) p (decode a .threads) (k .threads) i (row x t) (w .within (n .fresh)) (threads-space a k (n .few) y) q))
+        (rising-put (decode a .threads) 0 (2 ^ 64) x t (omega arith) (n .fits) (k .rising))
 
     pub thread-removed : (i : ℕ) → i < length (decode a .threads) → words p ≡ cutRow 21 i (getD (words (threads-part a)) 0 0) (words (threads-part a))
         → Leaves (putPart 45_088 21_512 a p) (with-threads (removeAt (decode a .threads) i) (decode a))

@@ -6,12 +6,13 @@ ghost use mathlib.Core.Path.{_≡_};
 ghost use mathlib.Core.List.{[], _∷_, _++_};
 ghost use Prim.Native.Nat.{_+_, _*_, _≤_, _<_};
 ghost use lib.ListN.{length, getD, set};
+ghost use Rattle.carv_area.specs.Table.{put};
 ghost use Rattle.carv_area.specs.Rows.{removeAt};
 ghost use Rattle.carv_area.specs.Lookup.{Located};
 ghost use Rattle.carv_scheduler.specs.Area.{decode};
 ghost use Rattle.carv_scheduler.specs.Rows.{row, no-row};
 ghost use Rattle.carv_scheduler.specs.Formed.{WellFormed, Leaves};
-ghost use Rattle.carv_scheduler.specs.AreaSteps.{with-head, with-threads, with-queue};
+ghost use Rattle.carv_scheduler.specs.AreaSteps.{with-head, with-threads, with-queue, Placed, New};
 
 // Where the parts start: the registry stands first.
 const HEAD: usize = 45_072;
@@ -38,6 +39,14 @@ pub fn switches(a: &[u8]) -> u64
     ensures { λ r. ⌜ r ≡ decode (now (a .entry)) .switches ⌝ }
 {
     carv_area::get(&a[HEAD..THREADS], 1)
+}
+
+// Another current thread and switch count.
+pub fn set_head(a: &mut [u8], thread: u64, count: u64)
+    requires { ⌜ WellFormed (now a) ⌝ }
+    ensures { λ _. ⌜ Leaves (now (a .exit)) (with-head thread count (decode (now (a .entry)))) ⌝ }
+{
+    rows::write_head(&mut a[HEAD..THREADS], thread, count)
 }
 
 // How many threads there are.
@@ -81,6 +90,34 @@ pub fn set_thread(a: &mut [u8], i: usize, id: u64, t: Thread)
     ensures { λ _. ⌜ Leaves (now (a .exit)) (with-threads (set (decode (now (a .entry)) .threads) i (row id t)) (decode (now (a .entry)))) ⌝ }
 {
     rows::write_thread(&mut a[THREADS..QUEUE], i, id, t)
+}
+
+// How many threads have a lower id.
+fn thread_rank(a: &[u8], id: u64) -> usize
+    requires { ⌜ WellFormed (now a) ⌝ }
+    ensures { λ r. ⌜ Placed (decode (now (a .entry)) .threads) id r ⌝ }
+{
+    carv_area::rank(&a[THREADS..QUEUE], 21, id)
+}
+
+// A new thread at place i, which is its place by its id.
+fn insert_at(a: &mut [u8], i: usize, id: u64, t: Thread)
+    requires { ⌜ WellFormed (now a) ⌝ }
+    requires { ⌜ Placed (decode (now a) .threads) id i ⌝ }
+    requires { ⌜ New (decode (now a) .threads) id ⌝ }
+    ensures { λ _. ⌜ Leaves (now (a .exit)) (with-threads (put id t (decode (now (a .entry)) .threads)) (decode (now (a .entry)))) ⌝ }
+{
+    rows::insert_thread(&mut a[THREADS..QUEUE], i, id, t)
+}
+
+// A new thread, in its place among the rising ids.
+pub fn insert_thread(a: &mut [u8], id: u64, t: Thread)
+    requires { ⌜ WellFormed (now a) ⌝ }
+    requires { ⌜ New (decode (now a) .threads) id ⌝ }
+    ensures { λ _. ⌜ Leaves (now (a .exit)) (with-threads (put id t (decode (now (a .entry)) .threads)) (decode (now (a .entry)))) ⌝ }
+{
+    let i = thread_rank(a, id);
+    insert_at(a, i, id, t)
 }
 
 // The thread at place i is taken out.

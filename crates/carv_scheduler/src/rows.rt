@@ -7,8 +7,9 @@ use crate::Thread;
 use crate::Wait;
 ghost use mathlib.Core.Path.{_≡_};
 ghost use Prim.Native.Nat.{_+_, _*_, _≤_};
-ghost use lib.ListN.{length};
+ghost use lib.ListN.{length, getD, set};
 ghost use Rattle.carv_area.specs.Words.{words};
+ghost use Rattle.carv_area.specs.Moves.{openRow};
 ghost use Rattle.carv_scheduler.specs.Area.{wait-at, payer-at, space-at, context-at, results-at, thread-at};
 ghost use Rattle.carv_scheduler.specs.Rows.{row, set-start, set-place, set-context, set-end, set-thread};
 
@@ -171,4 +172,23 @@ pub fn write_thread(t: &mut [u8], i: usize, id: u64, thread: Thread)
     write_place(t, i, place);
     write_context(t, i, context);
     write_end(t, i, results, thread.ticks);
+}
+
+// A row at place i of the table t, before the row that stood there, with this record.
+pub fn insert_thread(t: &mut [u8], i: usize, id: u64, thread: Thread)
+    requires { ⌜ (getD (words (now t)) 0 0 * 21 + 21 + 1) * 8 ≤ length (now t) ⌝ }
+    requires { ⌜ i ≤ getD (words (now t)) 0 0 ⌝ }
+    ensures { λ _. ⌜ words (now (t .exit)) ≡ set-thread (openRow 21 i (getD (words (now (t .entry))) 0 0) (words (now (t .entry)))) i (row id thread) ⌝ }
+{
+    carv_area::insert_row(t, 21, i);
+    write_thread(t, i, id, thread)
+}
+
+// The current thread and the switch count.
+pub fn write_head(h: &mut [u8], current: u64, switches: u64)
+    requires { ⌜ length (now h) ≡ 16 ⌝ }
+    ensures { λ _. ⌜ words (now (h .exit)) ≡ set (set (words (now (h .entry))) 0 current) 1 switches ⌝ }
+{
+    carv_area::put(h, 0, current);
+    carv_area::put(h, 1, switches);
 }
