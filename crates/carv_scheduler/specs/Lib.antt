@@ -11,6 +11,7 @@ pub mod Kept
 pub mod Refines
 pub mod Book
 pub mod History
+pub mod Demand2
 pub mod Demand3
 pub mod Area
 pub mod Rows
