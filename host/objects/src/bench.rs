@@ -3,6 +3,7 @@
 use crate::area;
 use crate::calls::Call;
 use crate::port::Registry;
+use carv_compare::random::Random;
 use carv_oracle::account::PERIOD;
 use carv_oracle::{Board, Value};
 use std::collections::VecDeque;
@@ -31,7 +32,13 @@ pub enum Ids {
     Dense,
     /// With two of three missing.
     Gaps,
+    /// Chosen against question 1: all with one remainder by 509, so that its guess of a payer's
+    /// place is always wrong, and payers at random, so that its search can't be foreseen.
+    Against,
 }
+
+/// The remainder's divisor in question 1's guesses.
+const GUESSES: u64 = 509;
 
 /// The same board on both sides: one budget to four other objects, up to eight levels deep.
 struct Boards {
@@ -55,24 +62,48 @@ impl Boards {
             cpu: PERIOD,
             memory: MEMORY,
         });
-        let mut level = 0;
-        for place in 1..objects {
-            if ids == Ids::Gaps {
-                boards.leave_gap();
-            }
-            if place % TO_A_BUDGET == 0 {
-                level = level % DEPTH + 1;
-                boards.add_budget(level);
-            } else {
-                boards.add_object();
-            }
+        match ids {
+            Ids::Dense => boards.fill(objects, 0),
+            Ids::Gaps => boards.fill(objects, 2),
+            Ids::Against => boards.fill_against(objects),
         }
         boards
     }
 
-    /// A budget of this level: below the root, or below the newest.
-    fn add_budget(&mut self, level: u64) {
-        let parent = if level == 1 { 1 } else { self.newest };
+    /// Fills the board, with so many ids left out before each object.
+    fn fill(&mut self, objects: usize, gap: u64) {
+        let mut level = 0;
+        for place in 1..objects {
+            self.leave_gap(gap);
+            if place % TO_A_BUDGET == 0 {
+                level = level % DEPTH + 1;
+                let parent = if level == 1 { 1 } else { self.newest };
+                self.add_budget(parent, level);
+            } else {
+                self.add_object();
+            }
+        }
+    }
+
+    /// One budget to four other objects, as on the other boards, but the budgets first.
+    fn fill_against(&mut self, objects: usize) {
+        let mut random = Random::new(1);
+        let budgets = objects / TO_A_BUDGET;
+        let mut payers = vec![1];
+        for place in 1..objects {
+            self.leave_gap(GUESSES - 1);
+            if place <= budgets {
+                self.add_budget(1, DEPTH);
+                payers.push(self.newest);
+            } else {
+                self.newest = random.of(&payers);
+                self.add_object();
+            }
+        }
+    }
+
+    /// A budget with the share of this level.
+    fn add_budget(&mut self, parent: u64, level: u64) {
         self.newest = self.make(Call::CreateBudget {
             parent,
             cpu: (PERIOD / 16) >> level,
@@ -91,8 +122,8 @@ impl Boards {
         self.plain.push_back((id, payer));
     }
 
-    fn leave_gap(&mut self) {
-        for _ in 0..2 {
+    fn leave_gap(&mut self, ids: u64) {
+        for _ in 0..ids {
             let id = self.make(Call::Insert {
                 kind: NOTIFICATION,
                 payer: 1,
@@ -126,6 +157,7 @@ impl fmt::Display for Line {
         let ids = match self.ids {
             Ids::Dense => "dense",
             Ids::Gaps => "gaps",
+            Ids::Against => "against",
         };
         let whole = |time: f64| format!("{time:.0}");
         let tenths = |time: f64| format!("{time:.1}");
@@ -153,6 +185,11 @@ pub const HEAD: &str = "\
 /// measured.
 pub fn bench(objects: usize, ids: Ids, mut told: impl FnMut(&Line)) {
     let measure = Measure { objects, ids };
+    if ids == Ids::Against {
+        // only question 1 is timed
+        told(&measure.is_sound());
+        return;
+    }
     for line in [
         Measure::is_sound,
         Measure::open,

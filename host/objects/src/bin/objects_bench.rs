@@ -5,7 +5,8 @@ use std::process::ExitCode;
 
 const HELP: &str = "\
 Times each call of the port's registry beside the Rust's, in nanoseconds per call, on boards of
-33, 255 and 512 objects, and prints a table in Markdown.
+33, 255 and 512 objects, and prints a table in Markdown. Ids are dense, with gaps, or chosen against
+question 1 (only is_sound is timed then).
 
 usage: objects_bench [OBJECTS...]
        objects_bench --help
@@ -46,7 +47,7 @@ fn size(text: &str) -> Result<usize, String> {
 fn table(sizes: &[usize]) {
     println!("{HEAD}");
     for size in sizes {
-        for ids in [Ids::Dense, Ids::Gaps] {
+        for ids in [Ids::Dense, Ids::Gaps, Ids::Against] {
             bench(*size, ids, |line| println!("{line}"));
         }
     }
