@@ -1,108 +1,133 @@
 #!/usr/bin/env python3
-# tools/entries.py [CRATE_DIR] [NAME ...]
-# Writes the entry points of src/lib.rt and the C functions of src/c.rt, each with its proof folder, for the calls that src/calls.rt has
-# (or for the NAMEs given). In both files everything from the marker line to the end is replaced; what stands above it is kept.
-# CALLS: name of the entry point, arguments after the area, definition of specs/Registry.antt, reading or not, comment.
-# The function called is calls::NAME.
-import os, re, shutil, sys
+"""Writes the board's entry points and C functions.
 
-CALLS = [
-    ('create', 'kind: u64, payer: u64, backing: bool', 'create', False, 'A new object of this kind.'),
-    ('insert', 'kind: u64, payer: u64, bytes: u64', 'insert', False, 'An object of this kind that takes this many bytes.'),
-    ('create_budget', 'parent: u64, cpu: u64, memory: u64, time: u64', 'create-budget', False, 'A budget carved out of its parent.'),
-    ('charge_more', 'id: u64, bytes: u64', 'charge-more', False, 'More bytes charged for an object.'),
-    ('uncharge', 'id: u64, bytes: u64', 'uncharge', False, 'Bytes of an object credited.'),
-    ('remove', 'id: u64', 'remove', False, 'An object taken out.'),
-    ('refill', 'id: u64, time: u64', 'refill', False, 'The renewal of a budget.'),
-    ('charge_cpu', 'id: u64, ns: u64, time: u64', 'charge-cpu', False, 'CPU time charged to a budget.'),
-    ('pays_for_anything', 'id: u64', 'pays-for-anything', True, 'Does another object have this payer?'),
-    ('account', 'id: u64', 'read-account', True, 'The account of a budget.'),
-    ('charge_of', 'id: u64', 'charge-of', True, 'The payer and the charge of an object.'),
+    tools/entries.py CRATE_DIR ANSWERS
+
+Writes the entry points of src/lib.rt and the C functions of src/c.rt, for the calls listed below, and the answers by which
+tools/prove.py proves them, into ANSWERS. In both files everything from the marker line to the end is replaced; what stands above it
+is kept. A call: name, parameters after the area, definition, module of the inner function, does it only read, comment. Parameters
+of a struct's type are numbers in the C function.
+"""
+import sys
+
+REGISTRY, CALLS = 'registry', [
+    ('create', 'kind: u64, payer: u64, backing: bool', 'create', 'registry', False, 'A new object of this kind.'),
+    ('insert', 'kind: u64, payer: u64, bytes: u64', 'insert', 'registry', False, 'An object of this kind that takes this many bytes.'),
+    ('create_budget', 'parent: u64, cpu: u64, memory: u64, time: u64', 'create-budget', 'registry', False, 'A budget carved out of its parent.'),
+    ('charge_more', 'id: u64, bytes: u64', 'charge-more', 'registry', False, 'More bytes charged for an object.'),
+    ('uncharge', 'id: u64, bytes: u64', 'uncharge', 'registry', False, 'Bytes of an object credited.'),
+    ('remove', 'id: u64', 'remove', 'registry', False, 'An object taken out.'),
+    ('refill', 'id: u64, time: u64', 'refill', 'registry', False, 'The renewal of a budget.'),
+    ('charge_cpu', 'id: u64, ns: u64, time: u64', 'charge-cpu', 'registry', False, 'CPU time charged to a budget.'),
+    ('pays_for_anything', 'id: u64', 'pays-for-anything', 'registry', True, 'Does another object have this payer?'),
+    ('account', 'id: u64', 'read-account', 'registry', True, 'The account of a budget.'),
+    ('charge_of', 'id: u64', 'charge-of', 'registry', True, 'The payer and the charge of an object.'),
+    ('start', 'id: u64, space: u64, cspace: u64, root: u64, context: Context', 'start', 'calls', False, 'An Inactive thread is Ready.'),
+    ('block_current', 'kind: u64, number: u64', 'block-current', 'calls', False, 'The current thread is Blocked on this wait.'),
+    ('wake', 'id: u64, results: Results', 'wake', 'ticking', False, 'A Blocked thread is Ready, with these results.'),
+    ('is_blocked_on', 'id: u64, kind: u64, number: u64', 'is-blocked-on', 'calls', True, 'Is this thread Blocked on this wait?'),
+    ('kill', 'id: u64, cause: u64', 'kill', 'killing', False, 'A thread ends.'),
+    ('tick', 'n: u64', 'tick', 'ticking', False, 'The timer tick n.'),
+    ('plan', 'n: u64', 'plan', 'planning', False, 'The thread to run at tick n.'),
+    ('read_thread', 'id: u64', 'read-thread', 'calls', True, "A thread's record."),
+    ('current', '', 'read-current', 'calls', True, 'The current thread.'),
+    ('switches', '', 'read-switches', 'calls', True, 'How many context switches there were.'),
+    ('exit_of', 'id: u64', 'exit-of', 'exits', True, 'Why a thread ended, by the exit log.'),
 ]
+STRUCTS = {
+    'Context': ['rip', 'rsp', 'rflags', 'rdi', 'rsi', 'cs', 'ss'],
+    'Results': ['first', 'second', 'third'],
+}
 LIB_MARK = '// The calls, each with question 1 in front.\n'
 C_MARK = '// The calls.\n'
 
-args = sys.argv[1:]
-crate = args.pop(0) if args and os.path.isdir(args[0]) else os.path.join(os.path.dirname(os.path.dirname(os.path.abspath(__file__))), 'crates/carv_objects')
-there = set(re.findall(r'^pub fn (\w+)\(', open(crate + '/src/calls.rt').read(), re.M))
-calls = [c for c in CALLS if (c[0] in args if args else c[0] in there)]
-for c in CALLS:
-    if c not in calls: print('left out:', c[0])
 
 def signature(head, params, result):
     one = '%s(%s) -> %s\n' % (head, ', '.join(params), result)
-    if len(one) <= 100 + 1: return one
+    if len(one) <= 101:
+        return one
     return '%s(\n%s) -> %s\n' % (head, ''.join('    %s,\n' % p for p in params), result)
 
-def up(n): return 'c' + ' .before' * n
-def proof(folder, uses, needs):
-    fn = folder.split('/')[-1]
-    spec = fn.replace('_', '-') + '-spec'
-    mod = folder.replace('/', '.')
-    t = '-- `carv_objects::%s` meets its contract. Assumes nothing.\n' % folder.replace('/', '::')
-    t += 'use borrow.Author.Needs.{needs}\n' + uses
-    t += 'use Rattle.carv_objects.proofs.%s.Statement.{statement}\n' % mod
-    t += 'use Rattle.carv_objects.proofs.%s.Tie as tie\n\n' % mod
-    t += 'pub %s : {M : Type 1} → statement M\n%s =\n    tie.close\n    (tie.spec\n' % (spec, spec)
-    for i, (name, bound, answer) in enumerate(needs):
-        t += '    (λ %s. %s)%s  -- %s\n' % (bound, answer, ')' if i == len(needs) - 1 else '', name)
-    d = '%s/proofs/%s' % (crate, folder)
-    os.makedirs(d, exist_ok=True)
-    open(d + '/Proof.antt', 'w').write(t)
-    print('wrote', folder)
 
-FOUND = 'search needs'
-lib = LIB_MARK
-c = C_MARK
-for name, params, definition, reading, comment in calls:
-    params = params.split(', ')
+def literal(struct, fields):
+    one = '%s { %s }' % (struct, ', '.join(fields))
+    if len(one) <= 30:
+        return one
+    return '%s {\n%s    }' % (struct, ''.join('        %s,\n' % f for f in fields))
+
+
+def entry(name, params, definition, module, reading, comment):
     names = [p.split(':')[0] for p in params]
-    spec = '%s %s' % (definition, ' '.join(names))
-    area = 'area: &[u8]' if reading else 'area: &mut [u8]'
+    call = ' '.join([definition] + names)
+    spec = 'by-registry (%s)' % call if module == REGISTRY else call
     left = 'entry' if reading else 'exit'
+    text = '\n// %s\n' % comment
+    text += signature('pub fn ' + name, ['area: &[u8]' if reading else 'area: &mut [u8]'] + params, 'Answer')
+    text += '    ensures { λ r. ⌜ Answered (%s) (now (area .entry)) r (now (area .%s)) ⌝ }\n' % (spec, left)
+    text += '{\n    if !is_sound(area) {\n        return Answer::Refused(1);\n    }\n'
+    inner = '%s::%s(%s)' % (module, name, ', '.join(['area'] + names))
+    text += '    let answer = %s;\n    Answer::Registry(answer)\n}\n' % inner if module == REGISTRY else '    %s\n}\n' % inner
     place = name.replace('_', '-')
-    # the entry point
-    lib += '\n// %s\n' % comment
-    lib += signature('pub fn ' + name, [area] + params, 'Answer')
-    lib += '    ensures { λ r. ⌜ Answered (%s) (now (area .entry)) r (now (area .%s)) ⌝ }\n' % (spec, left)
-    lib += '{\n    if !is_sound(area) {\n        return Answer::Refused(1);\n    }\n    calls::%s(area, %s)\n}\n' % (name, ', '.join(names))
-    uses = 'use Rattle.carv_objects.specs.Entry.{entry-refused, entry-sound, entry-served}\n'
-    refused = ('returns', 'c', 'entry-refused _ _ _ (c .before .is-sound .ensures) (c .if1 .taken)')
-    if reading:
-        proof(name, uses, [
-            ('is-sound-requires', 'c κs', FOUND),
-            refused,
-            (place + '-requires', 'c κs', 'entry-sound _ _ (c .before .is-sound .ensures) (c .if1 .left)'),
-            ('returns-2', 'c', 'entry-served _ _ _ (%s .is-sound .ensures) (c .before .if1 .left) _ _ (c .%s .ensures)' % (up(2), place)),
-        ])
-    else:
-        proof(name, uses, [
-            ('is-sound-requires', 'c κs', FOUND),
-            ('same-length', 'c', FOUND),
-            refused,
-            (place + '-requires', 'c κs', 'entry-sound _ _ (%s .is-sound .ensures) (c .before .if1 .left)' % up(2)),
-            ('same-length-2', 'c', FOUND),
-            ('returns-2', 'c', 'entry-served _ _ _ (%s .is-sound .ensures) (%s .if1 .left) _ _ (%s .%s .ensures)' % (up(5), up(4), up(2), place)),
-        ])
-    # the C function
-    fn = 'carv_objects_' + name
-    c += '\n#[no_mangle]\n'
-    c += signature('pub extern "C" fn ' + fn, [area] + params + ['out: &mut [u64]'], 'u64')
-    c += '    ensures { λ r. ⌜ Called (%s) (now (area .entry)) (now (out .entry)) r (now (area .%s)) (now (out .exit)) ⌝ }\n' % (spec, left)
-    c += '{\n    if out.len() != WORDS {\n        return 1;\n    }\n    let answer = crate::%s(area, %s);\n    report(answer, out)\n}\n' % (name, ', '.join(names))
-    uses = 'use Rattle.carv_objects.specs.Entry.{returned-one, returned}\n'
-    front = [
-        ('returns', 'c', 'returned-one _ _ _ (c .if1 .taken)'),
-        (place + '-requires', 'c κs', FOUND),
-        ('report-requires', 'c κs', FOUND),
-        ('same-length', 'c', FOUND),
-    ]
-    n, m = (5, 4) if reading else (8, 6)
-    last = ('returns-2', 'c', 'returned _ _ _ (%s .if1 .left) _ _ (%s .%s .ensures) _ _ (%s .report .ensures)' % (up(n), up(m), place, up(2)))
-    proof('c/' + fn, uses, front + ([] if reading else [('same-length-2', 'c', FOUND)]) + [last])
+    answers = '== %s\nuse Rattle.carv_scheduler.specs.Entry.{entry-refused, entry-sound, entry-served}\n' % name
+    served = '@%s .ensures' % place
+    if module == REGISTRY:
+        answers += 'use Rattle.carv_scheduler.specs.OnRegistry.{registry-serves}\nuse Rattle.carv_objects.specs.Registry.{%s}\n' % definition
+        served = 'registry-serves (%s) _ _ _ (%s)' % (' '.join([definition] + ['%' + n for n in names]), served)
+    answers += 'returns := entry-refused _ _ _ (@is-sound .ensures) (@if1 .taken)\n'
+    answers += '%s-requires := entry-sound _ _ (@is-sound .ensures) (@if1 .left)\n' % place
+    answers += 'returns-2 := entry-served _ _ _ (@is-sound .ensures) (@if1 .left) _ _ (%s)\n' % served
+    return text, answers
 
-for path, mark, text in (('src/lib.rt', LIB_MARK, lib), ('src/c.rt', C_MARK, c)):
-    s = open('%s/%s' % (crate, path)).read()
-    if s.count(mark) != 1: sys.exit('%s: no line %r' % (path, mark))
-    open('%s/%s' % (crate, path), 'w').write(s[:s.index(mark)] + text)
-    print('wrote', path)
+
+def c_function(name, params, definition, module, reading, comment):
+    numbers, given, made, terms = [], [], '', []
+    for p in params:
+        n, kind = p.split(': ')
+        given.append(n)
+        if kind in STRUCTS:
+            fields = STRUCTS[kind]
+            numbers += ['%s: u64' % f for f in fields]
+            made += '    let %s = %s;\n' % (n, literal(kind, fields))
+            terms.append('(record { %s })' % '; '.join('%s = %s' % (f, f) for f in fields))
+        else:
+            numbers.append(p)
+            terms.append(n)
+    call = ' '.join([definition] + terms)
+    spec = 'by-registry (%s)' % call if module == REGISTRY else call
+    left = 'entry' if reading else 'exit'
+    text = '\n#[no_mangle]\n'
+    text += signature('pub extern "C" fn carv_' + name, ['area: &[u8]' if reading else 'area: &mut [u8]'] + numbers + ['out: &mut [u64]'], 'u64')
+    text += '    ensures { λ r. ⌜ Called (%s) (now (area .entry)) (now (out .entry)) r (now (area .%s)) (now (out .exit)) ⌝ }\n' % (spec, left)
+    text += '{\n    if out.len() != WORDS {\n        return 1;\n    }\n' + made
+    text += '    let answer = crate::%s(%s);\n    report(answer, out)\n}\n' % (name, ', '.join(['area'] + given))
+    place = name.replace('_', '-')
+    answers = '== c/carv_%s\nuse Rattle.carv_scheduler.specs.Entry.{returned-one, returned}\n' % name
+    answers += 'returns := returned-one _ _ _ (@if1 .taken)\n'
+    answers += 'report-requires := @if1 .left\n'
+    answers += 'returns-2 := returned _ _ _ (@if1 .left) _ _ (@%s .ensures) _ _ (@report .ensures)\n' % place
+    return text, answers
+
+
+def main():
+    if len(sys.argv) != 3:
+        sys.exit(__doc__)
+    crate, out = sys.argv[1:]
+    lib, c, answers = LIB_MARK, C_MARK, ''
+    for name, params, *rest in CALLS:
+        params = [p for p in params.split(', ') if p]
+        for part, make in ((0, entry), (1, c_function)):
+            text, told = make(name, params, *rest)
+            answers += told
+            if part == 0:
+                lib += text
+            else:
+                c += text
+    for path, mark, text in (('src/lib.rt', LIB_MARK, lib), ('src/c.rt', C_MARK, c)):
+        s = open('%s/%s' % (crate, path)).read()
+        if s.count(mark) != 1:
+            sys.exit('%s: no line %r' % (path, mark))
+        open('%s/%s' % (crate, path), 'w').write(s[:s.index(mark)] + text)
+    open(out, 'w').write(answers)
+
+
+main()

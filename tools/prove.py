@@ -1,11 +1,11 @@
 #!/usr/bin/env python3
 """Writes compact proof files from short answers.
 
-    rt dev CRATE > OUT 2>&1; rt dev CRATE --generated GEN > /dev/null 2>&1
-    tools/prove.py OUT GEN ANSWERS
+    tools/prove.py --stubs CRATE_DIR ANSWERS; rt dev CRATE --generated GEN > /dev/null 2>&1
+    tools/prove.py CRATE_DIR GEN ANSWERS
 
-OUT has the proof files that `rt dev` printed for functions without one; GEN has the generated antt, from which the places of a
-function's code are read. ANSWERS has a block for each function:
+The first line writes an empty proof file for each function of ANSWERS that has none: without one `rt dev` would search for minutes.
+GEN has the generated antt, from which the places of a function's code are read. ANSWERS has a block for each function:
 
     == module/function
     use SOME.MODULE.{names}
@@ -20,39 +20,24 @@ A need without an answer gets that of `*`, by default `search needs`. In a term
     %arg      is the value of the parameter `arg`
     AREA, D   are the bytes of the parameter `a` at entry, and what the crate's `decode` says of them
 
-A term may go on in further lines. A function with a loop is printed with an invariant and a measure: write that one by hand.
+A term may go on in further lines. A function with a loop asks for an invariant and a measure: write that one by hand, from what
+`rt dev` prints.
 """
-import glob
 import os
 import re
 import sys
 
 
-def printed_files(path):
-    """The proof files that `rt dev` printed: function -> (crate folder, text)."""
-    lines, files, i = open(path).read().split('\n'), {}, 0
-    while i < len(lines):
-        m = re.match(r'help: write (\S+)/proofs/(\S+)/Proof\.antt with these lines', lines[i])
-        i += 1
-        if m:
-            text = []
-            while i < len(lines) and (lines[i].startswith('    ') or lines[i] == ''):
-                text.append(lines[i][4:])
-                i += 1
-            files[m.group(2)] = (m.group(1), '\n'.join(text))
-    return files
-
-
-def places(gen, function):
+def places(gen, crate, function):
     """For each need, how many `.before` lead to each place of the code."""
-    path = glob.glob(f'{gen}/*·proofs/proofs/{function}/Lts.antt')[0]
+    path = f'{gen}/Rattle.{crate}.proofs/proofs/{function}/Lts.antt'
     record, before, name, needs, need = None, {}, {}, {}, None
     for line in open(path):
         if m := re.match(r'      pub record ([\w-]+) : Type 0 where', line):
             record = m.group(1)
         if (m := re.match(r'        pub before : ([\w-]+)', line)) and record:
             before[record] = m.group(1)
-        if (m := re.match(r'        pub ([\w-]+) : [\w-]+·own before', line)) and record:
+        if (m := re.match(r'        pub («?[\w-]+»?) : [\w-]+·own before', line)) and record:
             name[record] = m.group(1)
         if m := re.match(r'\s+Need-([\w-]+) =', line):
             need = m.group(1)
@@ -77,9 +62,10 @@ def expand(term, at, where):
         return 'c' + ' .before' * steps
 
     def place(m):
-        if m.group(1) not in at:
-            sys.exit(f'{where}: no place {m.group(1)}; there are {sorted(k for k in at if k)}')
-        return f'{path(at[m.group(1)])} .{m.group(1)}'
+        name = f'«{m.group(1)}»' if f'«{m.group(1)}»' in at else m.group(1)
+        if name not in at:
+            sys.exit(f'{where}: no place {name}; there are {sorted(k for k in at if k)}')
+        return f'{path(at[name])} .{name}'
 
     term = re.sub(r'%(\w+)', r'(START .args .\1)', term)
     term = term.replace('AREA', '(START .args .a .now)')
@@ -104,18 +90,20 @@ def answers(block):
     return function, uses, unfolding, terms
 
 
-def write(block, files, gen):
+def write(block, folder, gen):
     function, uses, unfolding, terms = answers(block)
-    if function not in files:
-        print(f'{function}: not printed')
+    crate = os.path.basename(os.path.normpath(folder))
+    generated = f'{gen}/Rattle.{crate}.proofs/proofs/{function}/Tie.antt'
+    if not os.path.exists(generated):
+        print(f'{function}: not generated')
         return
-    folder, text = files[function]
-    statement = re.search(r'^use \S+Statement\.\{statement\}$', text, re.M).group(0)
-    tie = re.search(r'^use \S+\.Tie as tie$', text, re.M).group(0)
-    crate = re.search(r'Rattle·(\w+)·proofs', statement).group(1)
-    spec = re.search(r'^pub (\S+)-spec', text, re.M).group(1)
-    needs = re.findall(r'^(\S+) : tie\.Need-\S+(?: [^\n]*)?\n(?:unfolding [^\n]*\n)?\1 (c(?: κs)?) =', text, re.M)
-    at = places(gen, function)
+    module = f'Rattle.{crate}.proofs.{function.replace("/", ".")}'
+    statement = f'use {module}.Statement.{{statement}}'
+    tie = f'use {module}.Tie as tie'
+    spec = function.split('/')[-1].replace('_', '-')
+    names = re.findall(r'^abbrev pub Need-(\S+) :', open(generated).read(), re.M)
+    needs = [(n, 'c κs' if re.search(r'-requires(-\d+)?$', n) else 'c') for n in names]
+    at = places(gen, crate, function)
     body = [(n, a, expand(terms.get(n, terms.get('*', 'search needs')), at.get(n, {'START': 0}), function)) for n, a in needs]
     for unused in set(terms) - {n for n, _ in needs} - {'*'}:
         print(f'{function}: no need {unused}')
@@ -136,12 +124,22 @@ def write(block, files, gen):
     print(f'{function}: {len(body)} needs')
 
 
+def stub(block, folder):
+    function = answers(block)[0]
+    path = f'{folder}/proofs/{function}/Proof.antt'
+    if not os.path.exists(path):
+        os.makedirs(os.path.dirname(path), exist_ok=True)
+        open(path, 'w').write('-- to be written\n')
+
+
 def main():
     if len(sys.argv) != 4:
         sys.exit(__doc__)
-    files = printed_files(sys.argv[1])
     for block in re.split(r'^== ', open(sys.argv[3]).read(), flags=re.M)[1:]:
-        write(block, files, sys.argv[2])
+        if sys.argv[1] == '--stubs':
+            stub(block, sys.argv[2])
+        else:
+            write(block, sys.argv[1], sys.argv[2])
 
 
 main()

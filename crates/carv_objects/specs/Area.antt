@@ -17,7 +17,7 @@ use Rattle.carv_objects.specs.declared.Entry.{Entry}
 use Rattle.carv_objects.specs.declared.Answer.{Answer}
 use Rattle.carv_objects.specs.declared.Answer.the-variants.{Done, Refused}
 use Rattle.carv_objects.specs.Answer.{Reply, number, value}
-use Rattle.carv_objects.specs.Registry.{Registry, Answers, opening}
+use Rattle.carv_objects.specs.Registry.{Registry, Answers, opening, refill, has-cpu}
 use Rattle.carv_objects.specs.Sound.{sound}
 
 -- the first word, and the table behind it
@@ -77,7 +77,12 @@ pub record Serves (call : Registry → Answers) (a : List ℕ) (r : Answer) (a�
   pub value : value r ≡ call (decode a) .value
   pub area : Is a′ (call (decode a) .now)
 
--- The same of any area: one that is not sound is refused with 1 and left as it came.
+-- A renewal of budget i, if it is live, and whether it has CPU left then.
+pub record Renews (i time : ℕ) (a : List ℕ) (r : Bool) (a′ : List ℕ) : Type 0 where
+  pub answer : r ≡ has-cpu (refill i time (decode a) .now) i
+  pub area : Is a′ (refill i time (decode a) .now)
+
+-- What a call answers and leaves of any area: one that is not sound is refused with 1 and left as it came.
 pub record Answered (call : Registry → Answers) (a : List ℕ) (r : Answer) (a′ : List ℕ) : Type 0 where
   pub refused : sound-area a ≡ false → (r ≡ Refused 1) × (a′ ≡ a)
   pub served : sound-area a ≡ true → Serves call a r a′

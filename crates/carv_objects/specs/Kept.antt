@@ -3,7 +3,7 @@ use mathlib.Core.Path.{_≡_, refl, sym, _∙_, ap, subst}
 use mathlib.Core.Bool.{Bool, true, false, cond, not, _&&_, _||_}
 use mathlib.Core.Option.{Option, none, some}
 use mathlib.Core.List.{List, [], _∷_}
-use Prim.Native.Nat.{ℕ, _+_, _-_, _≤_, _<_}
+use Prim.Native.Nat.{ℕ, _+_, _-_, _≤_, _<_, min}
 use native.Mathlib.Omega.{arith}
 use lib.Dec.{eqb, leb}
 use lib.ListN.{length}
@@ -16,7 +16,7 @@ use Rattle.carv_budget.specs.Account as account
 use Rattle.carv_budget.specs.Laws as account-laws
 use Rattle.carv_objects.specs.declared.Entry.{Entry}
 use Rattle.carv_objects.specs.Answer.{refuse, accept, asked, id, renewed}
-use Rattle.carv_objects.specs.Registry.{Registry, Answers, or-missing, entry, has, is-budget, account-of, payer-of, pays-in, pays-for, budget, listed, bytes-of, creatable, needs-backing, has-place, has-next, plain, carved, opening, create, insert, create-budget, charge-more, uncharge, remove, refill, charge-cpu}
+use Rattle.carv_objects.specs.Registry.{Registry, Answers, or-missing, entry, has, is-budget, account-of, payer-of, pays-in, pays-for, budget, listed, bytes-of, creatable, needs-backing, has-place, has-next, plain, carved, opening, create, insert, create-budget, charge-more, uncharge, remove, refill, charge-cpu, charge-most}
 use Rattle.carv_objects.specs.Sound.{kind-at, charge-by, memory-by, cpu-by}
 use Rattle.carv_objects.specs.SoundFacts.{SoundEntry, Sound}
 use Rattle.carv_objects.specs.SoundLaws.{account-sound}
@@ -219,6 +219,11 @@ pub charge-cpu-kept : (i ns t : ℕ) (r : Registry) → Sound r → Sound (charg
 charge-cpu-kept i ns t r s =
     charge-cpu-cases (λ a. Sound (a .now)) i ns t r (λ q h k. s) (λ e B. renew-kept r i t e s B)
     λ e B covers. spend-kept r i t e (λ a. ns) s B
+
+pub charge-most-kept : (i ns t : ℕ) (r : Registry) → Sound r → Sound (charge-most i ns t r)
+charge-most-kept i ns t r s = test (is-budget r i)
+    (λ a. rw a (let (e, B) = live-budget r i a in spend-kept r i t e (λ x. min ns (renew x t .«cpu_left»)) s B))
+    (λ a. rw a s)
 
 pub create-budget-cases : (P : Answers → Type 0) (parent cpu memory t : ℕ) (r : Registry) → StaysBut 12 P r
     → ((e : Entry) → BudgetEntry r parent e → leb 128 (free (e .account)) ≡ false → P (refuse 12 r))

@@ -1,4 +1,4 @@
--- The root of the crate's definitions. What a reader must believe: Answer, Registry, Kinds, Sound, Area, C, Rust, Book. The others are theorems on these.
+-- The root of the crate's definitions. What a reader must believe: Answer, Registry, Kinds, Sound, Area, Rust, Book. The others are theorems on these.
 pub mod Answer
 pub mod Registry
 pub mod Kinds
@@ -26,7 +26,7 @@ pub mod Booked
 pub mod Calls
 pub mod Questions
 pub mod CallSteps
+pub mod Cpu
 pub mod Opening
-pub mod C
 pub mod Entry
 pub mod Edges

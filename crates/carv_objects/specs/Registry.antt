@@ -3,7 +3,7 @@
 use mathlib.Core.Bool.{Bool, true, false, cond, not, _&&_, _||_}
 use mathlib.Core.Option.{Option, none, some}
 use mathlib.Core.List.{List, [], _∷_, _++_}
-use Prim.Native.Nat.{ℕ, suc, _+_, _-_, _^_}
+use Prim.Native.Nat.{ℕ, suc, _+_, _-_, _^_, min}
 use lib.Dec.{eqb, ltb, leb}
 use lib.ListN.{length}
 use Rattle.carv_area.specs.Table.{Row, at, alter, erase}
@@ -194,6 +194,14 @@ charge-cpu i ns time r = on r do
   λ r. on (budget i (λ a. account.renew a time) r) do
     ask 12 (leb ns (account.renew (account-of r i) time .«cpu_left»))
     accept none (budget i (λ a. account.spend (account.renew a time) ns) r)
+
+-- What the scheduler asks. Is i a live budget with CPU left?
+abbrev pub has-cpu : Registry → ℕ → Bool
+has-cpu r i = is-budget r i && ltb 0 (account-of r i .«cpu_left»)
+
+-- a live budget is charged ns "or, if less is left, all that is left"
+abbrev pub charge-most : (i ns time : ℕ) → Registry → Registry
+charge-most i ns time r = cond (is-budget r i) (budget i (λ a. account.spend (account.renew a time) (min ns (account.renew a time .«cpu_left»))) r) r
 
 -- Readings. "For a missing id `pays_for_anything` says no."
 

@@ -3,7 +3,7 @@ use carv_budget::Account;
 use carv_budget::Answer;
 ghost use mathlib.Core.Path.{_≡_};
 ghost use mathlib.Core.Bool.{true};
-ghost use Prim.Native.Nat.{_≤_};
+ghost use Prim.Native.Nat.{_≤_, min};
 ghost use lib.Dec.{leb};
 ghost use Rattle.carv_budget.specs.Account.{period, sound, due, renew, free, spend, charge, credit, reserve, return, returnable, fresh};
 ghost use Rattle.carv_objects.specs.Booked.{Books, Carves, done};
@@ -94,6 +94,26 @@ pub fn spend(a: Account, ns: u64, time: u64) -> Booked
         return Booked::Yes(account);
     }
     Booked::No
+}
+
+fn least(x: u64, y: u64) -> u64
+    ensures { λ r. ⌜ r ≡ min x y ⌝ }
+{
+    if x < y {
+        return x;
+    }
+    y
+}
+
+// CPU time taken from a renewed account, or all that is left if that is less.
+pub fn spend_most(a: Account, ns: u64, time: u64) -> Account
+    requires { ⌜ sound a ≡ true ⌝ }
+    ensures { λ r. ⌜ r ≡ spend (renew a time) (min ns (renew a time .«cpu_left»)) ⌝ }
+{
+    let renewed = renew(a, time);
+    let amount = least(ns, renewed.cpu_left);
+    let done = renewed.charge_cpu(amount, time);
+    done.account
 }
 
 // A child returned, if it can be.

@@ -57,7 +57,7 @@ fn has_backing(kind: Kind, backing: bool) -> bool
 }
 
 // The account of the object at place i.
-fn account_at(a: &[u8], i: usize) -> Account
+pub fn account_at(a: &[u8], i: usize) -> Account
     requires { ⌜ WellFormed (now a) ⌝ }
     requires { ⌜ i < length (decode (now a) .rows) ⌝ }
     ensures { λ r. ⌜ r ≡ getD (decode (now (a .entry)) .rows) i no-row .it .account ⌝ }

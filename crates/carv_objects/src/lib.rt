@@ -2,8 +2,8 @@
 // After kernel/src/objects.rs and the kinds of carv-abi.
 mod accounts;
 mod area;
-mod c;
-mod calls;
+pub mod calls;
+pub mod cpu;
 mod kinds;
 mod opening;
 mod rows;

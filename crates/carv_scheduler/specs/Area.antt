@@ -12,6 +12,7 @@ use Rattle.carv_area.specs.Words.{words}
 use Rattle.carv_area.specs.Parts.{part}
 use Rattle.carv_area.specs.Keys.{keys}
 use Rattle.carv_area.specs.Zero.{allZero}
+use Rattle.carv_budget.specs.Account.{period}
 use Rattle.carv_objects.specs.Area as objects
 use Rattle.carv_scheduler.specs.declared.Wait.{Wait}
 use Rattle.carv_scheduler.specs.declared.Payer.{Payer}
@@ -20,7 +21,10 @@ use Rattle.carv_scheduler.specs.declared.Context.{Context}
 use Rattle.carv_scheduler.specs.declared.Results.{Results}
 use Rattle.carv_scheduler.specs.declared.Thread.{Thread}
 use Rattle.carv_scheduler.specs.declared.Exit.{Exit}
-use Rattle.carv_scheduler.specs.Scheduler.{Board}
+use Rattle.carv_scheduler.specs.declared.Answer.{Answer}
+use Rattle.carv_scheduler.specs.declared.Answer.the-variants.{Done, Refused}
+use Rattle.carv_scheduler.specs.Answer.{number, value}
+use Rattle.carv_scheduler.specs.Scheduler.{Board, Answers, opening}
 use Rattle.carv_scheduler.specs.Sound.{sound}
 
 -- The parts.
@@ -130,3 +134,20 @@ sound-area a =
 pub record Is (a : List ℕ) (s : Board) : Type 0 where
   pub sound : sound-area a ≡ true
   pub same : decode a ≡ s
+
+-- What a call answers, r, and what it leaves, a′, of a sound area a.
+pub record Serves (call : Board → Answers) (a : List ℕ) (r : Answer) (a′ : List ℕ) : Type 0 where
+  pub number : number r ≡ call (decode a) .number
+  pub value : value r ≡ call (decode a) .value
+  pub area : Is a′ (call (decode a) .now)
+
+-- The same of any area: one that is not sound is refused with 1 and left as it came.
+pub record Answered (call : Board → Answers) (a : List ℕ) (r : Answer) (a′ : List ℕ) : Type 0 where
+  pub refused : sound-area a ≡ false → (r ≡ Refused 1) × (a′ ≡ a)
+  pub served : sound-area a ≡ true → Serves call a r a′
+
+-- An opening: questions 1, of the length alone, and 2, "is the CPU share at most 10,000,000?"
+pub record Opened (cpu memory : ℕ) (a : List ℕ) (r : Answer) (a′ : List ℕ) : Type 0 where
+  pub size : eqb (length a) 68_144 ≡ false → (r ≡ Refused 1) × (a′ ≡ a)
+  pub share : eqb (length a) 68_144 ≡ true → leb cpu period ≡ false → (r ≡ Refused 2) × (a′ ≡ a)
+  pub opened : eqb (length a) 68_144 ≡ true → leb cpu period ≡ true → (r ≡ Done) × Is a′ (opening cpu memory)

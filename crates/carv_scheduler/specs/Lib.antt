@@ -1,5 +1,6 @@
--- The root of the crate's definitions. What a reader must believe: Scheduler, Sound, Area, Rust, Book. The others are theorems on these.
+-- The root of the crate's definitions. What a reader must believe: Scheduler, Answer, Sound, Area, C, Creating, Image, ExitRun, Rust, Book. The others are theorems on these.
 pub mod Scheduler
+pub mod Answer
 pub mod Rust
 pub mod Sound
 pub mod SoundFacts
@@ -13,7 +14,39 @@ pub mod Book
 pub mod History
 pub mod Demand2
 pub mod Demand3
+pub mod Edges
 pub mod Area
 pub mod Rows
 pub mod Formed
 pub mod AreaSteps
+pub mod Room
+pub mod AreaLaws
+pub mod AreaExact
+pub mod Calls
+pub mod Questions
+pub mod CallSteps
+pub mod OnRegistry
+pub mod C
+pub mod Entry
+pub mod Opening
+pub mod RowWords
+pub mod Waking
+pub mod Ticking
+pub mod State
+pub mod Walk
+pub mod Planning
+pub mod PlanSteps
+pub mod ExitSteps
+pub mod KillSteps
+pub mod Image
+pub mod ImageSteps
+pub mod ExitRun
+pub mod SoundWalk
+pub mod SoundThread
+pub mod SoundRows
+pub mod SoundStates
+pub mod SoundQueue
+pub mod SoundLog
+pub mod SoundBridge
+pub mod Creating
+pub mod Demands

@@ -355,3 +355,6 @@ lift-value (some v) = some (of-registry v)
 
 abbrev pub on-registry : registry.Answers → Board → Answers
 on-registry a b = record { number = a .number; value = lift-value (a .value); now = with-registry (a .now) b }
+
+abbrev pub by-registry : (Registry → registry.Answers) → Board → Answers
+by-registry call b = on-registry (call (b .registry)) b

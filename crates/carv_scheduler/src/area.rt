@@ -65,6 +65,14 @@ pub fn find_thread(a: &[u8], id: u64) -> Found
     carv_area::find(&a[THREADS..QUEUE], 21, id)
 }
 
+// The same, where the place guess is tried first.
+pub fn find_thread_near(a: &[u8], id: u64, guess: usize) -> Found
+    requires { ⌜ WellFormed (now a) ⌝ }
+    ensures { λ r. ⌜ Located no-row (decode (now (a .entry)) .threads) id r ⌝ }
+{
+    carv_area::find_near(&a[THREADS..QUEUE], 21, id, guess)
+}
+
 // The id of the thread at place i.
 pub fn thread_id(a: &[u8], i: usize) -> u64
     requires { ⌜ WellFormed (now a) ⌝ }

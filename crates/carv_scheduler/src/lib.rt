@@ -1,7 +1,27 @@
 // Threads, the ready queue and the exit log, and the board of these and the registry. After kernel/src/scheduler.rs.
 
 mod area;
+pub mod c;
+mod calls;
+mod exits;
+mod image;
+mod killing;
+mod opening;
+mod planning;
+mod registry;
 mod rows;
+mod sound;
+mod ticking;
+
+pub use exits::exit_in;
+pub use image::write_image;
+pub use opening::open;
+pub use sound::is_sound;
+ghost use mathlib.Core.Path.{_≡_};
+ghost use Rattle.carv_objects.specs.Registry.{create, insert, create-budget, charge-more, uncharge, remove, refill, charge-cpu, pays-for-anything, read-account, charge-of};
+ghost use Rattle.carv_scheduler.specs.Scheduler.{by-registry, create-user-thread, start, block-current, wake, is-blocked-on, kill, tick, plan, read-thread, read-current, read-switches, exit-of};
+ghost use Rattle.carv_scheduler.specs.Area.{Answered};
+ghost use Rattle.carv_scheduler.specs.Creating.{done, Plain, Created};
 
 // What a blocked thread waits for: kind 1 Send, 2 Recv, 3 Reply, 4 Notification, 5 Sleep; 0 where it waits for nothing.
 pub struct Wait {
@@ -52,8 +72,318 @@ pub struct Thread {
     pub ticks: u64,
 }
 
+// What a call answers: specs/Answer.antt gives document 01's number and the values.
+pub enum Answer {
+    Done,
+    Registry(carv_objects::Answer),
+    NoSwitch,
+    Switch(u64, u64, u64),
+    SwitchToKernel(u64, u64),
+    Ended(Wait),
+    EndedNothing,
+    Blocked,
+    NotBlocked,
+    Record(Thread),
+    Figure(u64),
+    Cause(u64),
+    NoCause,
+    Refused(u64),
+}
+
 // A thread's end. Cause: 1 Destroyed, 2 Faulted.
 pub struct Exit {
     pub thread: u64,
     pub cause: u64,
+}
+
+// Is it Answer::Done?
+fn is_done(answer: Answer) -> bool
+    ensures { λ r. ⌜ r ≡ done answer ⌝ }
+{
+    match answer {
+        Answer::Done => true,
+        Answer::Registry(_) => false,
+        Answer::NoSwitch => false,
+        Answer::Switch(_, _, _) => false,
+        Answer::SwitchToKernel(_, _) => false,
+        Answer::Ended(_) => false,
+        Answer::EndedNothing => false,
+        Answer::Blocked => false,
+        Answer::NotBlocked => false,
+        Answer::Record(_) => false,
+        Answer::Figure(_) => false,
+        Answer::Cause(_) => false,
+        Answer::NoCause => false,
+        Answer::Refused(_) => false,
+    }
+}
+
+// The same without the image.
+fn created(area: &mut [u8], id: u64, budget: u64, stack: bool) -> Answer
+    ensures { λ r. ⌜ Answered (create-user-thread id budget stack) (now (area .entry)) r (now (area .exit)) × Plain r ⌝ }
+{
+    if !is_sound(area) {
+        return Answer::Refused(1);
+    }
+    calls::create_user_thread(area, id, budget, stack)
+}
+
+// A new thread, Inactive; if it is accepted, its register image is filled.
+pub fn create_user_thread(
+    area: &mut [u8],
+    id: u64,
+    budget: u64,
+    stack: bool,
+    image: &mut [u8],
+) -> Answer
+    ensures { λ r. ⌜ Created (create-user-thread id budget stack) (now (area .entry)) (now (image .entry)) r (now (area .exit)) (now (image .exit)) ⌝ }
+{
+    if image.len() != image::BYTES {
+        return Answer::Refused(1);
+    }
+    let answer = created(area, id, budget, stack);
+    if is_done(answer) {
+        image::fill_image(image);
+    }
+    answer
+}
+
+// The calls, each with question 1 in front.
+
+// A new object of this kind.
+pub fn create(area: &mut [u8], kind: u64, payer: u64, backing: bool) -> Answer
+    ensures { λ r. ⌜ Answered (by-registry (create kind payer backing)) (now (area .entry)) r (now (area .exit)) ⌝ }
+{
+    if !is_sound(area) {
+        return Answer::Refused(1);
+    }
+    let answer = registry::create(area, kind, payer, backing);
+    Answer::Registry(answer)
+}
+
+// An object of this kind that takes this many bytes.
+pub fn insert(area: &mut [u8], kind: u64, payer: u64, bytes: u64) -> Answer
+    ensures { λ r. ⌜ Answered (by-registry (insert kind payer bytes)) (now (area .entry)) r (now (area .exit)) ⌝ }
+{
+    if !is_sound(area) {
+        return Answer::Refused(1);
+    }
+    let answer = registry::insert(area, kind, payer, bytes);
+    Answer::Registry(answer)
+}
+
+// A budget carved out of its parent.
+pub fn create_budget(area: &mut [u8], parent: u64, cpu: u64, memory: u64, time: u64) -> Answer
+    ensures { λ r. ⌜ Answered (by-registry (create-budget parent cpu memory time)) (now (area .entry)) r (now (area .exit)) ⌝ }
+{
+    if !is_sound(area) {
+        return Answer::Refused(1);
+    }
+    let answer = registry::create_budget(area, parent, cpu, memory, time);
+    Answer::Registry(answer)
+}
+
+// More bytes charged for an object.
+pub fn charge_more(area: &mut [u8], id: u64, bytes: u64) -> Answer
+    ensures { λ r. ⌜ Answered (by-registry (charge-more id bytes)) (now (area .entry)) r (now (area .exit)) ⌝ }
+{
+    if !is_sound(area) {
+        return Answer::Refused(1);
+    }
+    let answer = registry::charge_more(area, id, bytes);
+    Answer::Registry(answer)
+}
+
+// Bytes of an object credited.
+pub fn uncharge(area: &mut [u8], id: u64, bytes: u64) -> Answer
+    ensures { λ r. ⌜ Answered (by-registry (uncharge id bytes)) (now (area .entry)) r (now (area .exit)) ⌝ }
+{
+    if !is_sound(area) {
+        return Answer::Refused(1);
+    }
+    let answer = registry::uncharge(area, id, bytes);
+    Answer::Registry(answer)
+}
+
+// An object taken out.
+pub fn remove(area: &mut [u8], id: u64) -> Answer
+    ensures { λ r. ⌜ Answered (by-registry (remove id)) (now (area .entry)) r (now (area .exit)) ⌝ }
+{
+    if !is_sound(area) {
+        return Answer::Refused(1);
+    }
+    let answer = registry::remove(area, id);
+    Answer::Registry(answer)
+}
+
+// The renewal of a budget.
+pub fn refill(area: &mut [u8], id: u64, time: u64) -> Answer
+    ensures { λ r. ⌜ Answered (by-registry (refill id time)) (now (area .entry)) r (now (area .exit)) ⌝ }
+{
+    if !is_sound(area) {
+        return Answer::Refused(1);
+    }
+    let answer = registry::refill(area, id, time);
+    Answer::Registry(answer)
+}
+
+// CPU time charged to a budget.
+pub fn charge_cpu(area: &mut [u8], id: u64, ns: u64, time: u64) -> Answer
+    ensures { λ r. ⌜ Answered (by-registry (charge-cpu id ns time)) (now (area .entry)) r (now (area .exit)) ⌝ }
+{
+    if !is_sound(area) {
+        return Answer::Refused(1);
+    }
+    let answer = registry::charge_cpu(area, id, ns, time);
+    Answer::Registry(answer)
+}
+
+// Does another object have this payer?
+pub fn pays_for_anything(area: &[u8], id: u64) -> Answer
+    ensures { λ r. ⌜ Answered (by-registry (pays-for-anything id)) (now (area .entry)) r (now (area .entry)) ⌝ }
+{
+    if !is_sound(area) {
+        return Answer::Refused(1);
+    }
+    let answer = registry::pays_for_anything(area, id);
+    Answer::Registry(answer)
+}
+
+// The account of a budget.
+pub fn account(area: &[u8], id: u64) -> Answer
+    ensures { λ r. ⌜ Answered (by-registry (read-account id)) (now (area .entry)) r (now (area .entry)) ⌝ }
+{
+    if !is_sound(area) {
+        return Answer::Refused(1);
+    }
+    let answer = registry::account(area, id);
+    Answer::Registry(answer)
+}
+
+// The payer and the charge of an object.
+pub fn charge_of(area: &[u8], id: u64) -> Answer
+    ensures { λ r. ⌜ Answered (by-registry (charge-of id)) (now (area .entry)) r (now (area .entry)) ⌝ }
+{
+    if !is_sound(area) {
+        return Answer::Refused(1);
+    }
+    let answer = registry::charge_of(area, id);
+    Answer::Registry(answer)
+}
+
+// An Inactive thread is Ready.
+pub fn start(
+    area: &mut [u8],
+    id: u64,
+    space: u64,
+    cspace: u64,
+    root: u64,
+    context: Context,
+) -> Answer
+    ensures { λ r. ⌜ Answered (start id space cspace root context) (now (area .entry)) r (now (area .exit)) ⌝ }
+{
+    if !is_sound(area) {
+        return Answer::Refused(1);
+    }
+    calls::start(area, id, space, cspace, root, context)
+}
+
+// The current thread is Blocked on this wait.
+pub fn block_current(area: &mut [u8], kind: u64, number: u64) -> Answer
+    ensures { λ r. ⌜ Answered (block-current kind number) (now (area .entry)) r (now (area .exit)) ⌝ }
+{
+    if !is_sound(area) {
+        return Answer::Refused(1);
+    }
+    calls::block_current(area, kind, number)
+}
+
+// A Blocked thread is Ready, with these results.
+pub fn wake(area: &mut [u8], id: u64, results: Results) -> Answer
+    ensures { λ r. ⌜ Answered (wake id results) (now (area .entry)) r (now (area .exit)) ⌝ }
+{
+    if !is_sound(area) {
+        return Answer::Refused(1);
+    }
+    ticking::wake(area, id, results)
+}
+
+// Is this thread Blocked on this wait?
+pub fn is_blocked_on(area: &[u8], id: u64, kind: u64, number: u64) -> Answer
+    ensures { λ r. ⌜ Answered (is-blocked-on id kind number) (now (area .entry)) r (now (area .entry)) ⌝ }
+{
+    if !is_sound(area) {
+        return Answer::Refused(1);
+    }
+    calls::is_blocked_on(area, id, kind, number)
+}
+
+// A thread ends.
+pub fn kill(area: &mut [u8], id: u64, cause: u64) -> Answer
+    ensures { λ r. ⌜ Answered (kill id cause) (now (area .entry)) r (now (area .exit)) ⌝ }
+{
+    if !is_sound(area) {
+        return Answer::Refused(1);
+    }
+    killing::kill(area, id, cause)
+}
+
+// The timer tick n.
+pub fn tick(area: &mut [u8], n: u64) -> Answer
+    ensures { λ r. ⌜ Answered (tick n) (now (area .entry)) r (now (area .exit)) ⌝ }
+{
+    if !is_sound(area) {
+        return Answer::Refused(1);
+    }
+    ticking::tick(area, n)
+}
+
+// The thread to run at tick n.
+pub fn plan(area: &mut [u8], n: u64) -> Answer
+    ensures { λ r. ⌜ Answered (plan n) (now (area .entry)) r (now (area .exit)) ⌝ }
+{
+    if !is_sound(area) {
+        return Answer::Refused(1);
+    }
+    planning::plan(area, n)
+}
+
+// A thread's record.
+pub fn read_thread(area: &[u8], id: u64) -> Answer
+    ensures { λ r. ⌜ Answered (read-thread id) (now (area .entry)) r (now (area .entry)) ⌝ }
+{
+    if !is_sound(area) {
+        return Answer::Refused(1);
+    }
+    calls::read_thread(area, id)
+}
+
+// The current thread.
+pub fn current(area: &[u8]) -> Answer
+    ensures { λ r. ⌜ Answered (read-current) (now (area .entry)) r (now (area .entry)) ⌝ }
+{
+    if !is_sound(area) {
+        return Answer::Refused(1);
+    }
+    calls::current(area)
+}
+
+// How many context switches there were.
+pub fn switches(area: &[u8]) -> Answer
+    ensures { λ r. ⌜ Answered (read-switches) (now (area .entry)) r (now (area .entry)) ⌝ }
+{
+    if !is_sound(area) {
+        return Answer::Refused(1);
+    }
+    calls::switches(area)
+}
+
+// Why a thread ended, by the exit log.
+pub fn exit_of(area: &[u8], id: u64) -> Answer
+    ensures { λ r. ⌜ Answered (exit-of id) (now (area .entry)) r (now (area .entry)) ⌝ }
+{
+    if !is_sound(area) {
+        return Answer::Refused(1);
+    }
+    exits::exit_of(area, id)
 }

@@ -4,6 +4,7 @@ mod generate;
 
 pub use generate::Records;
 
+use crate::command::little_endian;
 use carv_oracle::account::{self, Account, Outcome, PERIOD};
 
 /// Words in a record.
@@ -127,11 +128,7 @@ impl Record {
 
     /// The words, little-endian.
     pub fn bytes(&self) -> [u8; BYTES] {
-        let mut bytes = [0; BYTES];
-        for (place, word) in bytes.chunks_exact_mut(8).zip(self.words()) {
-            place.copy_from_slice(&word.to_le_bytes());
-        }
-        bytes
+        little_endian(&self.words())
     }
 }
 

@@ -4,7 +4,11 @@
 //! and says how many answers differ. Nothing of it is linked here.
 
 pub mod accounts;
+pub mod board;
+pub mod command;
 pub mod draw;
 pub mod objects;
 pub mod program;
+pub mod progress;
 pub mod random;
+pub mod state;

@@ -4,8 +4,10 @@ mod generate;
 
 pub use generate::Records;
 
+use crate::command::little_endian;
+use crate::state::entry;
 use carv_oracle::account::PERIOD;
-use carv_oracle::{Board, Entry, Snapshot, Value};
+use carv_oracle::{Board, Snapshot, Value};
 
 /// Words in a record.
 pub const WORDS: usize = 16;
@@ -79,11 +81,7 @@ impl Record {
 
     /// The words, little-endian.
     pub fn bytes(&self) -> [u8; BYTES] {
-        let mut bytes = [0; BYTES];
-        for (place, word) in bytes.chunks_exact_mut(8).zip(self.words()) {
-            place.copy_from_slice(&word.to_le_bytes());
-        }
-        bytes
+        little_endian(&self.words())
     }
 }
 
@@ -160,12 +158,6 @@ impl Registry {
             _ => None,
         }
     }
-}
-
-/// The object with this id.
-fn entry(state: &Snapshot, id: u64) -> Option<&Entry> {
-    let place = state.entries.binary_search_by_key(&id, |entry| entry.id);
-    place.ok().map(|place| &state.entries[place])
 }
 
 /// What an accepted call answers, in words 6 to 12.

@@ -65,7 +65,7 @@ pub struct Thread {
 }
 
 /// A wait: of which kind, and for what.
-#[derive(Clone, Copy, Debug, PartialEq, Eq)]
+#[derive(Clone, Copy, Debug, Default, PartialEq, Eq)]
 pub struct Wait {
     /// 1 Send, 2 Recv, 3 Reply, 4 Notification, 5 Sleep.
     pub kind: u64,
@@ -118,6 +118,24 @@ impl Thread {
             result: thread.result,
             run_ticks: thread.run_ticks,
         }
+    }
+}
+
+impl Thread {
+    /// The record without its id: state; kind and number of the wait; 1 and the budget; 1, space,
+    /// cspace and root; context; results; run ticks. What isn't there is 0.
+    pub fn words(&self) -> [u64; 20] {
+        let wait = self.wait.unwrap_or_default();
+        let mut words = [0; 20];
+        words[..3].copy_from_slice(&[self.state, wait.kind, wait.number]);
+        words[3..5].copy_from_slice(&[self.budget.is_some().into(), self.budget.unwrap_or(0)]);
+        words[5] = self.space.is_some().into();
+        let places = [self.space, self.cspace, self.root];
+        words[6..9].copy_from_slice(&places.map(Option::unwrap_or_default));
+        words[9..16].copy_from_slice(&self.context);
+        words[16..19].copy_from_slice(&self.result);
+        words[19] = self.run_ticks;
+        words
     }
 }
 

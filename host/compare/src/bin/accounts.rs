@@ -1,6 +1,7 @@
 //! Writes random account calls with the Rust's answers, or runs the port's program on them.
 
 use carv_compare::accounts::Records;
+use carv_compare::command::{numbers, write_records};
 use carv_compare::program;
 use std::io::{self, BufWriter, Write};
 use std::process::ExitCode;
@@ -46,14 +47,6 @@ fn fail(why: &str, status: u8) -> ExitCode {
     ExitCode::from(status)
 }
 
-fn numbers(count: &str, seed: &str) -> Result<(u64, u64), String> {
-    let number = |name, text: &str| {
-        text.parse()
-            .map_err(|_| format!("{name} must be a number below 2^64, not `{text}`"))
-    };
-    Ok((number("COUNT", count)?, number("SEED", seed)?))
-}
-
 fn write((count, seed): (u64, u64)) -> Result<(), String> {
     feed(&mut BufWriter::new(io::stdout().lock()), count, seed)
         .map_err(|why| format!("can't write the records: {why}"))
@@ -64,10 +57,6 @@ fn run(program: &str, count: u64, seed: u64) -> Result<(), String> {
 }
 
 fn feed(to: &mut impl Write, count: u64, seed: u64) -> io::Result<()> {
-    let mut records = Records::new(seed);
-    for _ in 0..count {
-        let record = records.next().expect("records never end");
-        to.write_all(&record.bytes())?;
-    }
-    to.flush()
+    let records = Records::new(seed).map(|record| record.bytes());
+    write_records(to, records, count)
 }

@@ -1,7 +1,8 @@
 //! Writes random calls on a registry with the answers that are expected.
 
+use carv_compare::command::{numbers, write_records};
 use carv_compare::objects::Records;
-use std::io::{self, BufWriter, Write};
+use std::io::{self, BufWriter};
 use std::process::ExitCode;
 
 const HELP: &str = "\
@@ -40,20 +41,8 @@ fn fail(why: &str, status: u8) -> ExitCode {
     ExitCode::from(status)
 }
 
-fn numbers(count: &str, seed: &str) -> Result<(u64, u64), String> {
-    let number = |name, text: &str| {
-        text.parse()
-            .map_err(|_| format!("{name} must be a number below 2^64, not `{text}`"))
-    };
-    Ok((number("COUNT", count)?, number("SEED", seed)?))
-}
-
 fn write((count, seed): (u64, u64)) -> io::Result<()> {
     let mut to = BufWriter::new(io::stdout().lock());
-    let mut records = Records::new(seed);
-    for _ in 0..count {
-        let record = records.next().expect("records never end");
-        to.write_all(&record.bytes())?;
-    }
-    to.flush()
+    let records = Records::new(seed).map(|record| record.bytes());
+    write_records(&mut to, records, count)
 }

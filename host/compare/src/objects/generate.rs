@@ -1,9 +1,10 @@
 //! Makes up calls on a registry, edges more often than chance gives them.
 
-use super::{Op, PLACES, Record, Registry, entry};
+use super::{Op, PLACES, Record, Registry};
 use crate::draw::Draw;
-use carv_oracle::account::{self, Account, PERIOD};
-use carv_oracle::{Entry, Snapshot};
+use crate::state::{account_of, entry, free, is_budget, renewed};
+use carv_oracle::Snapshot;
+use carv_oracle::account::{Account, PERIOD};
 
 /// Records without end: document 01's edges, then one registry after the other, each filled to its
 /// last place or not. About every second call is a reading.
@@ -342,29 +343,18 @@ impl Records {
         let entries = &self.registry.state().entries;
         let from = self.draw.random.below(entries.len() as u64) as usize;
         let (before, after) = entries.split_at(from);
-        let is_budget = |entry: &&Entry| entry.account.is_some();
-        let found = after.iter().chain(before).find(is_budget);
+        let found = after.iter().chain(before).find(|entry| is_budget(entry));
         found.map_or(1, |entry| entry.id)
     }
 
     /// A budget's account; one without anything for another id.
     fn account(&self, id: u64) -> Account {
-        entry(self.registry.state(), id)
-            .and_then(|entry| entry.account)
-            .unwrap_or_default()
+        account_of(self.registry.state(), id)
     }
 
     fn objects(&self) -> usize {
         self.registry.state().entries.len()
     }
-}
-
-fn free(account: &Account) -> u64 {
-    account.memory_limit - account.memory_reserved - account.memory_used
-}
-
-fn renewed(account: Account, time: u64) -> Account {
-    account::refill(account, time).account.unwrap_or_default()
 }
 
 #[cfg(test)]

@@ -1,0 +1,2 @@
+-- The root of the crate's own proof modules.
+pub mod Rules

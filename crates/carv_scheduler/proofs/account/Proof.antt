@@ -1,0 +1,16 @@
+-- `carv_scheduler::account` meets its contract. Assumes nothing.
+use borrow.Author.Needs.{needs}
+use Rattle.carv_scheduler.specs.Entry.{entry-refused, entry-sound, entry-served}
+use Rattle.carv_scheduler.specs.OnRegistry.{registry-serves}
+use Rattle.carv_objects.specs.Registry.{read-account}
+use Rattle.carv_scheduler.proofs.account.Statement.{statement}
+use Rattle.carv_scheduler.proofs.account.Tie as tie
+
+pub account-spec : {M : Type 1} → statement M
+account-spec =
+    tie.close
+    (tie.spec
+    (λ c κs. search needs)  -- is-sound-requires
+    (λ c. entry-refused _ _ _ (c .before .is-sound .ensures) (c .if1 .taken))  -- returns
+    (λ c κs. entry-sound _ _ (c .before .is-sound .ensures) (c .if1 .left))  -- account-requires
+    (λ c. entry-served _ _ _ (c .before .before .is-sound .ensures) (c .before .if1 .left) _ _ (registry-serves (read-account (c .before .before .before .before .args .id)) _ _ _ (c .account .ensures))))  -- returns-2

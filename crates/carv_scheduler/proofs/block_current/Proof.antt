@@ -1,0 +1,16 @@
+-- `carv_scheduler::block_current` meets its contract. Assumes nothing.
+use borrow.Author.Needs.{needs}
+use Rattle.carv_scheduler.specs.Entry.{entry-refused, entry-sound, entry-served}
+use Rattle.carv_scheduler.proofs.block_current.Statement.{statement}
+use Rattle.carv_scheduler.proofs.block_current.Tie as tie
+
+pub block-current-spec : {M : Type 1} → statement M
+block-current-spec =
+    tie.close
+    (tie.spec
+    (λ c κs. search needs)  -- is-sound-requires
+    (λ c. search needs)  -- same-length
+    (λ c. entry-refused _ _ _ (c .before .is-sound .ensures) (c .if1 .taken))  -- returns
+    (λ c κs. entry-sound _ _ (c .before .before .is-sound .ensures) (c .before .if1 .left))  -- block-current-requires
+    (λ c. search needs)  -- same-length-2
+    (λ c. entry-served _ _ _ (c .before .before .before .before .before .is-sound .ensures) (c .before .before .before .before .if1 .left) _ _ (c .before .before .block-current .ensures)))  -- returns-2

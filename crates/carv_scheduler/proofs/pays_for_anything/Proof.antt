@@ -1,0 +1,16 @@
+-- `carv_scheduler::pays_for_anything` meets its contract. Assumes nothing.
+use borrow.Author.Needs.{needs}
+use Rattle.carv_scheduler.specs.Entry.{entry-refused, entry-sound, entry-served}
+use Rattle.carv_scheduler.specs.OnRegistry.{registry-serves}
+use Rattle.carv_objects.specs.Registry.{pays-for-anything}
+use Rattle.carv_scheduler.proofs.pays_for_anything.Statement.{statement}
+use Rattle.carv_scheduler.proofs.pays_for_anything.Tie as tie
+
+pub pays-for-anything-spec : {M : Type 1} → statement M
+pays-for-anything-spec =
+    tie.close
+    (tie.spec
+    (λ c κs. search needs)  -- is-sound-requires
+    (λ c. entry-refused _ _ _ (c .before .is-sound .ensures) (c .if1 .taken))  -- returns
+    (λ c κs. entry-sound _ _ (c .before .is-sound .ensures) (c .if1 .left))  -- pays-for-anything-requires
+    (λ c. entry-served _ _ _ (c .before .before .is-sound .ensures) (c .before .if1 .left) _ _ (registry-serves (pays-for-anything (c .before .before .before .before .args .id)) _ _ _ (c .pays-for-anything .ensures))))  -- returns-2

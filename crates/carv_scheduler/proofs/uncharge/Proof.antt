@@ -1,0 +1,18 @@
+-- `carv_scheduler::uncharge` meets its contract. Assumes nothing.
+use borrow.Author.Needs.{needs}
+use Rattle.carv_scheduler.specs.Entry.{entry-refused, entry-sound, entry-served}
+use Rattle.carv_scheduler.specs.OnRegistry.{registry-serves}
+use Rattle.carv_objects.specs.Registry.{uncharge}
+use Rattle.carv_scheduler.proofs.uncharge.Statement.{statement}
+use Rattle.carv_scheduler.proofs.uncharge.Tie as tie
+
+pub uncharge-spec : {M : Type 1} → statement M
+uncharge-spec =
+    tie.close
+    (tie.spec
+    (λ c κs. search needs)  -- is-sound-requires
+    (λ c. search needs)  -- same-length
+    (λ c. entry-refused _ _ _ (c .before .is-sound .ensures) (c .if1 .taken))  -- returns
+    (λ c κs. entry-sound _ _ (c .before .before .is-sound .ensures) (c .before .if1 .left))  -- uncharge-requires
+    (λ c. search needs)  -- same-length-2
+    (λ c. entry-served _ _ _ (c .before .before .before .before .before .is-sound .ensures) (c .before .before .before .before .if1 .left) _ _ (registry-serves (uncharge (c .before .before .before .before .before .before .before .before .args .id) (c .before .before .before .before .before .before .before .before .args .bytes)) _ _ _ (c .before .before .uncharge .ensures))))  -- returns-2

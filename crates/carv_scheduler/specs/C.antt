@@ -1,0 +1,78 @@
+-- What a C function tells: the number of the answer is returned, and its values stand in the first of the 20 answer words. Assumes nothing.
+use mathlib.Core.Path.{_≡_}
+use mathlib.Core.Bool.{true, false}
+use mathlib.Core.List.{List, [], _∷_}
+use Prim.Native.Nat.{ℕ}
+use lib.Dec.{eqb}
+use lib.ListN.{length, set}
+use lib.Seq.{sets}
+use Rattle.carv_budget.specs.declared.Account.{Account}
+use Rattle.carv_objects.specs.declared.Answer as registry
+use Rattle.carv_objects.specs.declared.Answer.the-variants as registry-answer
+use Rattle.carv_scheduler.specs.declared.Thread.{Thread}
+use Rattle.carv_scheduler.specs.declared.Answer.{Answer}
+use Rattle.carv_scheduler.specs.declared.Answer.the-variants.{Done, Registry, NoSwitch, Switch, SwitchToKernel, Ended, EndedNothing, Blocked, NotBlocked, Record, Figure, Cause, NoCause, Refused}
+use Rattle.carv_scheduler.specs.Answer.{number}
+use Rattle.carv_scheduler.specs.Scheduler.{Board, Answers}
+use Rattle.carv_scheduler.specs.Area.{Answered, Opened}
+
+-- the figures of an account
+abbrev pub figures : Account → List ℕ
+figures a =
+    a .«cpu_allowance» ∷ a .«memory_limit» ∷ a .«period_start» ∷ a .«cpu_left» ∷ a .«cpu_reserved» ∷ a .«memory_used» ∷ a .«memory_reserved» ∷ []
+
+-- the words of a thread record
+abbrev pub record-words : Thread → List ℕ
+record-words t =
+    t .state ∷ t .wait .kind ∷ t .wait .number ∷ t .budget .is ∷ t .budget .id ∷ t .place .is ∷ t .place .space ∷ t .place .cspace ∷ t .place .root
+    ∷ t .context .rip ∷ t .context .rsp ∷ t .context .rflags ∷ t .context .rdi ∷ t .context .rsi ∷ t .context .cs ∷ t .context .ss
+    ∷ t .results .first ∷ t .results .second ∷ t .results .third ∷ t .ticks ∷ []
+
+-- the answer words out with the values of a registry's answer: an id; 1 or 0 for yes or no; the seven figures; a payer and a charge
+abbrev pub registry-reported : registry.Answer → List ℕ → List ℕ
+registry-reported registry-answer.Done out = out
+registry-reported (registry-answer.Id i) out = set out 0 i
+registry-reported registry-answer.Renewed out = set out 0 1
+registry-reported registry-answer.NotDue out = set out 0 0
+registry-reported registry-answer.Pays out = set out 0 1
+registry-reported registry-answer.PaysNothing out = set out 0 0
+registry-reported (registry-answer.Figures a) out = sets out 0 (figures a)
+registry-reported (registry-answer.Charge p n) out = sets out 0 (p ∷ n ∷ [])
+registry-reported (registry-answer.Refused n) out = out
+
+-- and of the board's: a switch is 1, the old id, the new id, and 1 and the root, or 0 for the kernel's; a wait that was ended is its kind and number, or 0 and 0; a cause,
+-- or 0. A refusal writes nothing
+abbrev pub reported : Answer → List ℕ → List ℕ
+reported Done out = out
+reported (Registry r) out = registry-reported r out
+reported NoSwitch out = set out 0 0
+reported (Switch old new root) out = sets out 0 (1 ∷ old ∷ new ∷ 1 ∷ root ∷ [])
+reported (SwitchToKernel old new) out = sets out 0 (1 ∷ old ∷ new ∷ 0 ∷ [])
+reported (Ended w) out = sets out 0 (w .kind ∷ w .number ∷ [])
+reported EndedNothing out = sets out 0 (0 ∷ 0 ∷ [])
+reported Blocked out = set out 0 1
+reported NotBlocked out = set out 0 0
+reported (Record t) out = sets out 0 (record-words t)
+reported (Figure n) out = set out 0 n
+reported (Cause n) out = set out 0 n
+reported NoCause out = set out 0 0
+reported (Refused n) out = out
+
+-- an answer of which `says` holds, in the returned number r and in the answer words out′
+pub record Reports (says : Answer → List ℕ → Type 0) (out : List ℕ) (r : ℕ) (a′ out′ : List ℕ) : Type 0 where
+  pub answer : Answer
+  pub said : says answer a′
+  pub number : r ≡ number answer
+  pub values : out′ ≡ reported answer out
+
+-- What a C function returns, r, and leaves, a′ and out′, of the area a and the answer words out: other than 20 answer words are refused with 1, and nothing changes
+pub record Returns (says : Answer → List ℕ → Type 0) (a out : List ℕ) (r : ℕ) (a′ out′ : List ℕ) : Type 0 where
+  pub size : eqb (length out) 20 ≡ false → (r ≡ 1) × (a′ ≡ a) × (out′ ≡ out)
+  pub reports : eqb (length out) 20 ≡ true → Reports says out r a′ out′
+
+-- of a call, and of an opening
+abbrev pub Called : (Board → Answers) → (a out : List ℕ) (r : ℕ) (a′ out′ : List ℕ) → Type 0
+Called call a = Returns (Answered call a) a
+
+abbrev pub Opens : (cpu memory : ℕ) (a out : List ℕ) (r : ℕ) (a′ out′ : List ℕ) → Type 0
+Opens cpu memory a = Returns (Opened cpu memory a) a

@@ -1,0 +1,68 @@
+-- `create_user_thread` with its register image: "An accepted creation fills the lent area". Assumes nothing.
+use mathlib.Core.Path.{_≡_, refl, sym, ap, _∙_}
+use mathlib.Core.Bool.{Bool, true, false, cond, false≢true, true≢false}
+use mathlib.Core.List.{List}
+use Prim.Native.Nat.{ℕ}
+use lib.Dec.{eqb}
+use lib.ListN.{length}
+use borrow.Author.Tests.{eqb-true, eqb-false, eq-eqb}
+use Rattle.carv_scheduler.specs.declared.Answer.{Answer}
+use Rattle.carv_scheduler.specs.declared.Answer.the-variants.{Done, Registry, NoSwitch, Switch, SwitchToKernel, Ended, EndedNothing, Blocked, NotBlocked, Record, Figure, Cause, NoCause, Refused}
+use Rattle.carv_scheduler.specs.Scheduler.{Board, Answers}
+use Rattle.carv_scheduler.specs.Area.{Answered}
+use Rattle.carv_scheduler.specs.Image.{image-size, register-image}
+use Rattle.carv_scheduler.specs.Answer.{number}
+use Rattle.carv_scheduler.specs.C.{reported, Reports}
+
+abbrev pub done : Answer → Bool
+done Done = true
+done (Registry r) = false
+done NoSwitch = false
+done (Switch old new root) = false
+done (SwitchToKernel old new) = false
+done (Ended w) = false
+done EndedNothing = false
+done Blocked = false
+done NotBlocked = false
+done (Record t) = false
+done (Figure n) = false
+done (Cause n) = false
+done NoCause = false
+done (Refused n) = false
+
+-- it is accepted exactly if it is `Done`
+abbrev pub Plain : Answer → Type 0
+Plain r = done r ≡ eqb (number r) 0
+
+-- What the call answers, r, and leaves, a′ and m′, of the area a and the image m: another length of the image is refused with 1, and nothing changes; else the area goes
+-- by the call, and the image is filled if that was accepted
+pub record Created (call : Board → Answers) (a m : List ℕ) (r : Answer) (a′ m′ : List ℕ) : Type 0 where
+  pub size : eqb (length m) image-size ≡ false → (r ≡ Refused 1) × (a′ ≡ a) × (m′ ≡ m)
+  pub served : eqb (length m) image-size ≡ true → Answered call a r a′
+  pub image : eqb (length m) image-size ≡ true → m′ ≡ cond (eqb (number r) 0) register-image m
+
+module _ (call : Board → Answers) (a m : List ℕ) where
+  pub created-size : (length m ≡ 512 → ⊥) → Created call a m (Refused 1) a m
+  created-size n = record { size = λ q. (refl, refl, refl); served = λ q. absurd (n (eqb-true (length m) 512 q)); image = λ q. absurd (n (eqb-true (length m) 512 q)) }
+
+  module _ (e : length m ≡ 512) (r : Answer) (a′ : List ℕ) (h : Answered call a r a′) (g : Plain r) (d : Bool) (q : d ≡ done r) where
+    pub created-filled : d ≡ true → (m′ : List ℕ) → m′ ≡ register-image → Created call a m r a′ m′
+    created-filled y m′ f = record { size = λ z. absurd (eqb-false (length m) 512 z e); served = λ z. h; image = λ z. f ∙ rw (← g, ← q, y) }
+
+    pub created-refused : d ≡ false → Created call a m r a′ m
+    created-refused n = record { size = λ z. absurd (eqb-false (length m) 512 z e); served = λ z. h; image = λ z. rw (← g, ← q, n) }
+
+-- the same in C: other than 20 answer words are refused with 1, and nothing changes
+pub record CreatesInC (call : Board → Answers) (a m out : List ℕ) (r : ℕ) (a′ m′ out′ : List ℕ) : Type 0 where
+  pub size : eqb (length out) 20 ≡ false → (r ≡ 1) × (a′ ≡ a) × (m′ ≡ m) × (out′ ≡ out)
+  pub reports : eqb (length out) 20 ≡ true → Reports (λ x b. Created call a m x b m′) out r a′ out′
+
+module _ (call : Board → Answers) (a m out : List ℕ) where
+  pub c-created-size : (length out ≡ 20 → ⊥) → CreatesInC call a m out 1 a m out
+  c-created-size n = record { size = λ q. (refl, refl, refl, refl); reports = λ q. absurd (n (eqb-true (length out) 20 q)) }
+
+  pub c-created : length out ≡ 20 → (x : Answer) (a′ m′ : List ℕ) → Created call a m x a′ m′ → (r : ℕ) (out′ : List ℕ) → (r ≡ number x) × (out′ ≡ reported x out) → CreatesInC call a m out r a′ m′ out′
+  c-created e x a′ m′ h r out′ p = record {
+    size = λ q. absurd (eqb-false (length out) 20 q e);
+    reports = λ q. record { answer = x; said = h; number = p .0; values = p .1 };
+  }

@@ -1,0 +1,280 @@
+// The calls on a sound area: document 01's questions in their order, then the step. lib.rt asks question 1 in front of each.
+use crate::Answer;
+use crate::Context;
+use crate::Payer;
+use crate::Results;
+use crate::Space;
+use crate::Thread;
+use crate::Wait;
+use crate::area;
+use carv_area::Found;
+ghost use mathlib.Core.Path.{_≡_};
+ghost use mathlib.Core.Bool.{true, _&&_};
+ghost use lib.Dec.{eqb};
+ghost use Prim.Native.Nat.{_<_};
+ghost use lib.ListN.{length, getD};
+ghost use Rattle.carv_area.specs.Table.{alter};
+ghost use Rattle.carv_area.specs.Lookup.{Here};
+ghost use Rattle.carv_scheduler.specs.Scheduler.{wait-listed, payer, fresh, become, started, join, with-threads, inactive, is, blocked, has, create-user-thread, start, block-current, is-blocked-on, read-thread, read-current, read-switches};
+ghost use Rattle.carv_scheduler.specs.Area.{decode, sound-area, Serves};
+ghost use Rattle.carv_scheduler.specs.Creating.{Plain};
+ghost use Rattle.carv_scheduler.specs.Rows.{no-row};
+ghost use Rattle.carv_scheduler.specs.Formed.{WellFormed, Leaves};
+
+// States of a thread.
+const INACTIVE: u64 = 1;
+
+const READY: u64 = 2;
+
+const RUNNING: u64 = 3;
+
+const BLOCKED: u64 = 4;
+
+const IDLE: u64 = 18_446_744_073_709_551_615;
+
+fn is_wait_listed(kind: u64) -> bool
+    ensures { λ r. ⌜ r ≡ wait-listed kind ⌝ }
+{
+    if kind < 1 {
+        return false;
+    }
+    if kind > 5 {
+        return false;
+    }
+    true
+}
+
+// A new record, Inactive, that this budget pays for.
+fn fresh_thread(budget: u64) -> Thread
+    ensures { λ r. ⌜ r ≡ fresh inactive (payer budget) ⌝ }
+{
+    Thread {
+        state: INACTIVE,
+        wait: Wait { kind: 0, number: 0 },
+        budget: Payer { is: 1, id: budget },
+        place: Space {
+            is: 0,
+            space: 0,
+            cspace: 0,
+            root: 0,
+        },
+        context: Context {
+            rip: 0,
+            rsp: 0,
+            rflags: 514,
+            rdi: 0,
+            rsi: 0,
+            cs: 0,
+            ss: 0,
+        },
+        results: Results {
+            first: 0,
+            second: 0,
+            third: 0,
+        },
+        ticks: 0,
+    }
+}
+
+// Is there a thread with this id?
+fn has_thread(a: &[u8], id: u64) -> bool
+    requires { ⌜ WellFormed (now a) ⌝ }
+    ensures { λ r. ⌜ r ≡ has (decode (now (a .entry)) .threads) id ⌝ }
+{
+    match area::find_thread(a, id) {
+        Found::At(_) => true,
+        Found::Nothing => false,
+    }
+}
+
+pub fn create_user_thread(a: &mut [u8], id: u64, budget: u64, stack: bool) -> Answer
+    requires { ⌜ sound-area (now a) ≡ true ⌝ }
+    ensures { λ r. ⌜ Serves (create-user-thread id budget stack) (now (a .entry)) r (now (a .exit)) × Plain r ⌝ }
+{
+    if has_thread(a, id) {
+        return Answer::Refused(5);
+    }
+    if id == 0 {
+        return Answer::Refused(5);
+    }
+    if id == IDLE {
+        return Answer::Refused(5);
+    }
+    if area::thread_count(a) >= 128 {
+        return Answer::Refused(6);
+    }
+    if !stack {
+        return Answer::Refused(14);
+    }
+    area::insert_thread(a, id, fresh_thread(budget));
+    Answer::Done
+}
+
+// The thread id, which stands at place i, gets this record and joins the queue's end.
+pub fn store_and_join(a: &mut [u8], i: usize, id: u64, t: Thread)
+    requires { ⌜ WellFormed (now a) ⌝ }
+    requires { ⌜ Here no-row (decode (now a) .threads) id i ⌝ }
+    requires { ⌜ length (decode (now a) .queue) < 127 ⌝ }
+    ensures { λ _. ⌜ Leaves (now (a .exit)) (with-threads (alter id (λ _. t) (decode (now (a .entry)) .threads)) (join (decode (now (a .entry)) .queue) id) (decode (now (a .entry)))) ⌝ }
+{
+    area::set_thread(a, i, id, t);
+    area::queue_push(a, id);
+}
+
+pub fn start(a: &mut [u8], id: u64, space: u64, cspace: u64, root: u64, context: Context) -> Answer
+    requires { ⌜ sound-area (now a) ≡ true ⌝ }
+    ensures { λ r. ⌜ Serves (start id space cspace root context) (now (a .entry)) r (now (a .exit)) ⌝ }
+{
+    let Found::At(i) = area::find_thread(a, id) else {
+        return Answer::Refused(7);
+    };
+    let t = area::thread_at(a, i);
+    if t.state != INACTIVE {
+        return Answer::Refused(8);
+    }
+    let budget = t.budget;
+    let results = t.results;
+    store_and_join(
+        a,
+        i,
+        id,
+        Thread {
+            state: READY,
+            wait: Wait { kind: 0, number: 0 },
+            budget,
+            place: Space {
+                is: 1,
+                space,
+                cspace,
+                root,
+            },
+            context,
+            results,
+            ticks: t.ticks,
+        },
+    );
+    Answer::Done
+}
+
+// The place of the current thread, which is there.
+pub fn current_place(a: &[u8]) -> usize
+    requires { ⌜ sound-area (now a) ≡ true ⌝ }
+    ensures { λ r. ⌜ Here no-row (decode (now (a .entry)) .threads) (decode (now (a .entry)) .current) r ⌝ }
+{
+    let current = area::current(a);
+    match area::find_thread(a, current) {
+        Found::At(i) => i,
+        Found::Nothing => 0,
+    }
+}
+
+// The thread id, which stands at place i, has another state and wait.
+pub fn set_state(a: &mut [u8], i: usize, id: u64, state: u64, wait: Wait)
+    requires { ⌜ WellFormed (now a) ⌝ }
+    requires { ⌜ Here no-row (decode (now a) .threads) id i ⌝ }
+    ensures { λ _. ⌜ Leaves (now (a .exit)) (with-threads (alter id (become state wait) (decode (now (a .entry)) .threads)) (decode (now (a .entry)) .queue) (decode (now (a .entry)))) ⌝ }
+{
+    let t = area::thread_at(a, i);
+    let budget = t.budget;
+    let place = t.place;
+    let context = t.context;
+    let results = t.results;
+    area::set_thread(
+        a,
+        i,
+        id,
+        Thread {
+            state,
+            wait,
+            budget,
+            place,
+            context,
+            results,
+            ticks: t.ticks,
+        },
+    )
+}
+
+pub fn block_current(a: &mut [u8], kind: u64, number: u64) -> Answer
+    requires { ⌜ sound-area (now a) ≡ true ⌝ }
+    ensures { λ r. ⌜ Serves (block-current kind number) (now (a .entry)) r (now (a .exit)) ⌝ }
+{
+    if !is_wait_listed(kind) {
+        return Answer::Refused(4);
+    }
+    let i = current_place(a);
+    let t = area::thread_at(a, i);
+    if t.state != RUNNING {
+        return Answer::Refused(8);
+    }
+    let current = area::current(a);
+    if current == IDLE {
+        return Answer::Refused(8);
+    }
+    set_state(a, i, current, BLOCKED, Wait { kind, number });
+    Answer::Done
+}
+
+// Is the thread at place i Blocked on this?
+fn blocked_at(a: &[u8], i: usize, kind: u64, number: u64) -> bool
+    requires { ⌜ WellFormed (now a) ⌝ }
+    requires { ⌜ i < length (decode (now a) .threads) ⌝ }
+    ensures { λ r. ⌜ r ≡ (is blocked (getD (decode (now (a .entry)) .threads) i no-row .it) && (eqb (getD (decode (now (a .entry)) .threads) i no-row .it .wait .kind) kind && eqb (getD (decode (now (a .entry)) .threads) i no-row .it .wait .number) number)) ⌝ }
+{
+    let t = area::thread_at(a, i);
+    let wait = t.wait;
+    if t.state != BLOCKED {
+        return false;
+    }
+    if wait.kind != kind {
+        return false;
+    }
+    if wait.number != number {
+        return false;
+    }
+    true
+}
+
+pub fn is_blocked_on(a: &[u8], id: u64, kind: u64, number: u64) -> Answer
+    requires { ⌜ sound-area (now a) ≡ true ⌝ }
+    ensures { λ r. ⌜ Serves (is-blocked-on id kind number) (now (a .entry)) r (now (a .entry)) ⌝ }
+{
+    if !is_wait_listed(kind) {
+        return Answer::Refused(4);
+    }
+    let Found::At(i) = area::find_thread(a, id) else {
+        return Answer::NotBlocked;
+    };
+    if blocked_at(a, i, kind, number) {
+        return Answer::Blocked;
+    }
+    Answer::NotBlocked
+}
+
+// A thread's record.
+pub fn read_thread(a: &[u8], id: u64) -> Answer
+    requires { ⌜ sound-area (now a) ≡ true ⌝ }
+    ensures { λ r. ⌜ Serves (read-thread id) (now (a .entry)) r (now (a .entry)) ⌝ }
+{
+    let Found::At(i) = area::find_thread(a, id) else {
+        return Answer::Refused(7);
+    };
+    let t = area::thread_at(a, i);
+    Answer::Record(t)
+}
+
+pub fn current(a: &[u8]) -> Answer
+    requires { ⌜ sound-area (now a) ≡ true ⌝ }
+    ensures { λ r. ⌜ Serves read-current (now (a .entry)) r (now (a .entry)) ⌝ }
+{
+    let id = area::current(a);
+    Answer::Figure(id)
+}
+
+pub fn switches(a: &[u8]) -> Answer
+    requires { ⌜ sound-area (now a) ≡ true ⌝ }
+    ensures { λ r. ⌜ Serves read-switches (now (a .entry)) r (now (a .entry)) ⌝ }
+{
+    let count = area::switches(a);
+    Answer::Figure(count)
+}

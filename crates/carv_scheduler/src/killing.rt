@@ -1,0 +1,131 @@
+// The end of a thread: it leaves the table, or stays Dead where it is current, leaves the ready queue, and its end is logged.
+use crate::Answer;
+use crate::Thread;
+use crate::Wait;
+use crate::area;
+use crate::exits;
+use carv_area::Found;
+ghost use mathlib.Core.Path.{_≡_};
+ghost use mathlib.Core.Bool.{true};
+ghost use lib.ListN.{getD};
+ghost use Rattle.carv_area.specs.Lookup.{Here};
+ghost use Rattle.carv_area.specs.Keys.{findIn};
+ghost use Rattle.carv_scheduler.specs.Scheduler.{cause-listed, without, kill};
+ghost use Rattle.carv_scheduler.specs.Sound.{distinct};
+ghost use Rattle.carv_scheduler.specs.Area.{decode, sound-area, Serves};
+ghost use Rattle.carv_scheduler.specs.Rows.{no-row};
+ghost use Rattle.carv_scheduler.specs.Formed.{WellFormed, Leaves};
+ghost use Rattle.carv_scheduler.specs.AreaSteps.{with-threads, with-queue};
+ghost use Rattle.carv_scheduler.specs.KillSteps.{killed, wait-answer};
+
+const IDLE: u64 = 18_446_744_073_709_551_615;
+
+const BLOCKED: u64 = 4;
+
+const DEAD: u64 = 5;
+
+// Is the cause Destroyed or Faulted?
+fn is_cause(cause: u64) -> bool
+    ensures { λ r. ⌜ r ≡ cause-listed cause ⌝ }
+{
+    if cause < 1 {
+        return false;
+    }
+    if cause > 2 {
+        return false;
+    }
+    true
+}
+
+// The place of a thread in the ready queue.
+fn queue_find(a: &[u8], id: u64) -> Found
+    requires { ⌜ WellFormed (now a) ⌝ }
+    ensures { λ r. ⌜ r ≡ findIn (decode (now (a .entry)) .queue) id ⌝ }
+{
+    let n = area::queue_length(a);
+    let mut i = 0;
+    while i < n {
+        let x = area::queue_at(a, i);
+        if x == id {
+            return Found::At(i);
+        }
+        i += 1;
+    }
+    Found::Nothing
+}
+
+// A thread leaves the ready queue, if it is there.
+pub fn leave_queue(a: &mut [u8], id: u64)
+    requires { ⌜ WellFormed (now a) ⌝ }
+    requires { ⌜ distinct (decode (now a) .queue) ≡ true ⌝ }
+    ensures { λ _. ⌜ Leaves (now (a .exit)) (with-queue (without id (decode (now (a .entry)) .queue)) (decode (now (a .entry)))) ⌝ }
+{
+    let Found::At(i) = queue_find(a, id) else {
+        return;
+    };
+    area::queue_pull(a, i);
+}
+
+// The thread at place i is Dead if it is current; any other is taken out.
+fn end_thread(a: &mut [u8], i: usize, id: u64, t: Thread)
+    requires { ⌜ WellFormed (now a) ⌝ }
+    requires { ⌜ Here no-row (decode (now a) .threads) id i ⌝ }
+    requires { ⌜ t ≡ getD (decode (now a) .threads) i no-row .it ⌝ }
+    ensures { λ _. ⌜ Leaves (now (a .exit)) (with-threads (killed id (decode (now (a .entry)))) (decode (now (a .entry)))) ⌝ }
+{
+    if id == area::current(a) {
+        let wait = Wait { kind: 0, number: 0 };
+        let budget = t.budget;
+        let place = t.place;
+        let context = t.context;
+        let results = t.results;
+        let ticks = t.ticks;
+        return area::set_thread(
+            a,
+            i,
+            id,
+            Thread {
+                state: DEAD,
+                wait,
+                budget,
+                place,
+                context,
+                results,
+                ticks,
+            },
+        );
+    }
+    area::remove_thread(a, i)
+}
+
+// What a kill answers of a thread as it was: its wait, if it was Blocked.
+fn wait_answer(t: Thread) -> Answer
+    ensures { λ r. ⌜ r ≡ wait-answer t ⌝ }
+{
+    let wait = t.wait;
+    if t.state == BLOCKED {
+        Answer::Ended(wait)
+    } else {
+        Answer::EndedNothing
+    }
+}
+
+pub fn kill(a: &mut [u8], id: u64, cause: u64) -> Answer
+    requires { ⌜ sound-area (now a) ≡ true ⌝ }
+    ensures { λ r. ⌜ Serves (kill id cause) (now (a .entry)) r (now (a .exit)) ⌝ }
+{
+    if !is_cause(cause) {
+        return Answer::Refused(4);
+    }
+    if id == IDLE {
+        return Answer::Refused(5);
+    }
+    let Found::At(i) = area::find_thread(a, id) else {
+        return Answer::Refused(7);
+    };
+    let t = area::thread_at(a, i);
+    end_thread(a, i, id, t);
+    leave_queue(a, id);
+    exits::log_exit(a, id, cause);
+    wait_answer(t)
+}

@@ -1,0 +1,348 @@
+// Question 1: is a lent area of its length, and is the board in it sound? Any bytes may be asked.
+// carv_objects asks it of the registry's part. Then three walks: over the threads' ids, which must rise; over the queue, which
+// marks the place of each id; and over the threads, each of which is tested by itself and by its mark.
+// specs/SoundWalk.antt says what the walks know, and specs/SoundBridge.antt that this is question 1.
+use carv_area::Found;
+ghost use mathlib.Core.Path.{_≡_};
+ghost use Prim.Native.Nat.{_+_, _*_, _≤_, _<_};
+ghost use lib.ListN.{length, getD};
+ghost use Rattle.carv_area.specs.Words.{words};
+ghost use Rattle.carv_area.specs.Stored.{Keyed};
+ghost use Rattle.carv_objects.specs.SoundWalk.{Tells};
+ghost use Rattle.carv_scheduler.specs.Sound.{unpaid};
+ghost use Rattle.carv_scheduler.specs.Area.{sound-area};
+ghost use Rattle.carv_scheduler.specs.SoundWalk.{wait-fits, budget-fits, space-fits, state-fits, Ordered, Fits, Fit, Current, Idle, Walk, Turned, Walked, SoundThreads, SoundTables, SoundExits, SoundParts};
+
+// The id of the idle thread.
+const IDLE: u64 = 18_446_744_073_709_551_615;
+
+// Has a thread in this state this wait?
+fn wait_fits(state: u64, kind: u64, number: u64) -> bool
+    ensures { λ r. ⌜ r ≡ wait-fits state kind number ⌝ }
+{
+    if state == 4 {
+        if kind < 1 {
+            return false;
+        }
+        return kind <= 5;
+    }
+    if kind != 0 {
+        return false;
+    }
+    number == 0
+}
+
+// Has the thread id no budget?
+fn is_unpaid(id: u64) -> bool
+    ensures { λ r. ⌜ r ≡ unpaid id ⌝ }
+{
+    if id == 0 {
+        return true;
+    }
+    id == IDLE
+}
+
+// Has the thread id this budget?
+fn budget_fits(id: u64, is: u64, budget: u64) -> bool
+    ensures { λ r. ⌜ r ≡ budget-fits id is budget ⌝ }
+{
+    if !is_unpaid(id) {
+        return is == 1;
+    }
+    if is != 0 {
+        return false;
+    }
+    budget == 0
+}
+
+// Is this a space, or none?
+fn space_fits(is: u64, space: u64, cspace: u64, root: u64) -> bool
+    ensures { λ r. ⌜ r ≡ space-fits is space cspace root ⌝ }
+{
+    if is != 0 {
+        return is == 1;
+    }
+    if space != 0 {
+        return false;
+    }
+    if cspace != 0 {
+        return false;
+    }
+    root == 0
+}
+
+// May the thread id, in the queue or not, be in this state?
+fn state_fits(state: u64, id: u64, current: u64, queued: bool) -> bool
+    ensures { λ r. ⌜ r ≡ state-fits queued current id state ⌝ }
+{
+    if state < 1 {
+        return false;
+    }
+    if state > 5 {
+        return false;
+    }
+    if state == 5 {
+        return id == current;
+    }
+    if id == IDLE {
+        return true;
+    }
+    if state == 2 {
+        return queued;
+    }
+    if state == 3 {
+        return id == current;
+    }
+    true
+}
+
+// Is the thread at place i, in the queue or not, in order?
+fn thread_fits(t: &[u8], i: usize, current: u64, queued: bool) -> bool
+    requires { ⌜ i * 168 + 176 ≤ length (now t) ⌝ }
+    ensures { λ r. ⌜ Tells r (Fits (words (now (t .entry))) current i queued) ⌝ }
+{
+    let o = i * 21;
+    let id = carv_area::get(t, o + 1);
+    let state = carv_area::get(t, o + 2);
+    if !state_fits(state, id, current, queued) {
+        return false;
+    }
+    let kind = carv_area::get(t, o + 3);
+    let number = carv_area::get(t, o + 3 + 1);
+    if !wait_fits(state, kind, number) {
+        return false;
+    }
+    let is = carv_area::get(t, o + 5);
+    let budget = carv_area::get(t, o + 5 + 1);
+    if !budget_fits(id, is, budget) {
+        return false;
+    }
+    let is = carv_area::get(t, o + 7);
+    let space = carv_area::get(t, o + 7 + 1);
+    let cspace = carv_area::get(t, o + 7 + 2);
+    let root = carv_area::get(t, o + 7 + 3);
+    space_fits(is, space, cspace, root)
+}
+
+// Are the n threads in order, where those in the queue are marked?
+fn threads_fit(t: &[u8], n: usize, current: u64, marks: &[u64]) -> bool
+    requires { ⌜ length (now t) ≡ 21_512 ⌝ }
+    requires { ⌜ n ≤ 128 ⌝ }
+    requires { ⌜ length (now marks) ≡ 128 ⌝ }
+    ensures { λ r. ⌜ Tells r (Fit (words (now (t .entry))) current n (now (marks .entry))) ⌝ }
+{
+    let mut i = 0;
+    while i < n {
+        let mark = marks[i];
+        if !thread_fits(t, i, current, mark == 1) {
+            return false;
+        }
+        i += 1;
+    }
+    true
+}
+
+// Do the ids of the n threads rise? Each place is noted under its id's rest.
+fn ids_rise(t: &[u8], n: usize, places: &mut [usize]) -> bool
+    requires { ⌜ length (now t) ≡ 21_512 ⌝ }
+    requires { ⌜ n ≡ getD (words (now t)) 0 0 ⌝ }
+    requires { ⌜ n ≤ 128 ⌝ }
+    requires { ⌜ length (now places) ≡ 256 ⌝ }
+    ensures { λ r. ⌜ Tells r (Ordered (words (now (t .entry)))) ⌝ }
+{
+    if n == 0 {
+        return true;
+    }
+    let mut before = carv_area::get(t, 1);
+    places[(before % 251) as usize] = 0;
+    let mut i = 1;
+    while i < n {
+        let id = carv_area::get(t, i * 21 + 1);
+        if id <= before {
+            return false;
+        }
+        before = id;
+        places[(id % 251) as usize] = i;
+        i += 1;
+    }
+    true
+}
+
+// Is the current thread there, and not Inactive?
+fn current_fits(t: &[u8], current: u64) -> bool
+    requires { ⌜ Keyed 21 (now t) ⌝ }
+    ensures { λ r. ⌜ Tells r (Current (words (now (t .entry))) current) ⌝ }
+{
+    let Found::At(i) = carv_area::find(t, 21, current) else {
+        return false;
+    };
+    carv_area::get(t, i * 21 + 2) != 1
+}
+
+// Is idle there, Running, or Ready if it is not current?
+fn idle_fits(t: &[u8], current: u64) -> bool
+    requires { ⌜ Keyed 21 (now t) ⌝ }
+    ensures { λ r. ⌜ Tells r (Idle (words (now (t .entry))) current) ⌝ }
+{
+    let Found::At(i) = carv_area::find(t, 21, IDLE) else {
+        return false;
+    };
+    let state = carv_area::get(t, i * 21 + 2);
+    if state == 3 {
+        return true;
+    }
+    if state != 2 {
+        return false;
+    }
+    current != IDLE
+}
+
+// Is the id at place j of the queue a Ready thread's, other than idle, and not yet marked? Then its place is marked.
+fn turn(t: &[u8], q: &[u8], j: usize, places: &[usize], marks: &mut [u64]) -> bool
+    requires { ⌜ Keyed 21 (now t) ⌝ }
+    requires { ⌜ getD (words (now t)) 0 0 ≤ 128 ⌝ }
+    requires { ⌜ length (now q) ≡ 1_024 ⌝ }
+    requires { ⌜ (j < getD (words (now q)) 0 0) × (j < 127) ⌝ }
+    requires { ⌜ length (now places) ≡ 256 ⌝ }
+    requires { ⌜ Walk (words (now t)) (words (now q)) j (now marks) ⌝ }
+    ensures { λ r. ⌜ Turned (words (now (t .entry))) (words (now (q .entry))) j r (now (marks .exit)) ⌝ }
+{
+    let id = carv_area::get(q, j + 1);
+    if id == IDLE {
+        return false;
+    }
+    let guess = places[(id % 251) as usize];
+    let Found::At(i) = carv_area::find_near(t, 21, id, guess) else {
+        return false;
+    };
+    if carv_area::get(t, i * 21 + 2) != 2 {
+        return false;
+    }
+    if marks[i] != 0 {
+        return false;
+    }
+    marks[i] = 1;
+    true
+}
+
+// Are the m ids of the queue those of Ready threads other than idle, each once? The places of these are marked.
+fn queue_fits(t: &[u8], q: &[u8], m: usize, places: &[usize], marks: &mut [u64]) -> bool
+    requires { ⌜ Keyed 21 (now t) ⌝ }
+    requires { ⌜ getD (words (now t)) 0 0 ≤ 128 ⌝ }
+    requires { ⌜ length (now q) ≡ 1_024 ⌝ }
+    requires { ⌜ (m ≡ getD (words (now q)) 0 0) × (m ≤ 127) ⌝ }
+    requires { ⌜ length (now places) ≡ 256 ⌝ }
+    requires { ⌜ Walk (words (now t)) (words (now q)) 0 (now marks) ⌝ }
+    ensures { λ r. ⌜ Walked (words (now (t .entry))) (words (now (q .entry))) r (now (marks .exit)) ⌝ }
+{
+    let mut j = 0;
+    while j < m {
+        if !turn(t, q, j, places, marks) {
+            return false;
+        }
+        j += 1;
+    }
+    true
+}
+
+// Are the n threads and the m ids of the queue in order?
+fn threads_are_sound(t: &[u8], q: &[u8], n: usize, m: usize, current: u64) -> bool
+    requires { ⌜ length (now t) ≡ 21_512 ⌝ }
+    requires { ⌜ length (now q) ≡ 1_024 ⌝ }
+    requires { ⌜ (n ≡ getD (words (now t)) 0 0) × (n ≤ 128) ⌝ }
+    requires { ⌜ (m ≡ getD (words (now q)) 0 0) × (m ≤ 127) ⌝ }
+    ensures { λ r. ⌜ Tells r (SoundThreads (words (now (t .entry))) (words (now (q .entry))) current) ⌝ }
+{
+    let mut places = [0usize; 256];
+    if !ids_rise(t, n, &mut places) {
+        return false;
+    }
+    if !current_fits(t, current) {
+        return false;
+    }
+    if !idle_fits(t, current) {
+        return false;
+    }
+    let mut marks = [0u64; 128];
+    if !queue_fits(t, q, m, &places, &mut marks) {
+        return false;
+    }
+    threads_fit(t, n, current, &marks)
+}
+
+// Are the threads t and the queue q in order, with zeros behind them?
+fn tables_are_sound(t: &[u8], q: &[u8], current: u64) -> bool
+    requires { ⌜ length (now t) ≡ 21_512 ⌝ }
+    requires { ⌜ length (now q) ≡ 1_024 ⌝ }
+    ensures { λ r. ⌜ Tells r (SoundTables (words (now (t .entry))) (words (now (q .entry))) current) ⌝ }
+{
+    let n = carv_area::get(t, 0);
+    if n > 128 {
+        return false;
+    }
+    let m = carv_area::get(q, 0);
+    if m > 127 {
+        return false;
+    }
+    let n = n as usize;
+    if !carv_area::zero_from(t, n * 21 + 1) {
+        return false;
+    }
+    let m = m as usize;
+    if !carv_area::zero_from(q, m + 1) {
+        return false;
+    }
+    threads_are_sound(t, q, n, m, current)
+}
+
+// Are the exits in order, with zeros behind them?
+fn exits_are_sound(x: &[u8]) -> bool
+    requires { ⌜ length (now x) ≡ 520 ⌝ }
+    ensures { λ r. ⌜ Tells r (SoundExits (words (now (x .entry)))) ⌝ }
+{
+    let n = carv_area::get(x, 0);
+    if n > 32 {
+        return false;
+    }
+    let n = n as usize;
+    if !carv_area::zero_from(x, n * 2 + 1) {
+        return false;
+    }
+    let mut i = 0;
+    while i < n {
+        let cause = carv_area::get(x, i * 2 + 2);
+        if cause < 1 {
+            return false;
+        }
+        if cause > 2 {
+            return false;
+        }
+        i += 1;
+    }
+    true
+}
+
+// Are the threads, the queue and the exits in order?
+fn parts_are_sound(area: &[u8]) -> bool
+    requires { ⌜ length (now area) ≡ 68_144 ⌝ }
+    ensures { λ r. ⌜ Tells r (SoundParts (now (area .entry))) ⌝ }
+{
+    let current = carv_area::get(&area[45_072..45_088], 0);
+    if !tables_are_sound(&area[45_088..66_600], &area[66_600..67_624], current) {
+        return false;
+    }
+    exits_are_sound(&area[67_624..68_144])
+}
+
+// Question 1.
+pub fn is_sound(area: &[u8]) -> bool
+    ensures { λ r. ⌜ r ≡ sound-area (now (area .entry)) ⌝ }
+{
+    if area.len() != 68_144 {
+        return false;
+    }
+    if !carv_objects::is_sound(&area[0..45_072]) {
+        return false;
+    }
+    parts_are_sound(area)
+}

@@ -1,0 +1,86 @@
+//! Compares the port's board with the Rust's.
+
+use carv_board_host::tally::Tally;
+use carv_board_host::{damaged, runs, short};
+use carv_compare::command::numbers;
+use std::process::ExitCode;
+
+const HELP: &str = "\
+Makes calls on the port's board and on the Rust's, and compares after each call the number,
+the answer words, the register image and every byte of the state.
+
+usage: board random COUNT SEED
+       board short DEPTH
+       board damaged COUNT SEED
+       board --help
+
+random   makes COUNT random calls, on one board after the other
+short    makes every list of up to DEPTH calls out of 20 on the registry, and out of 20 on
+         threads, each on a new board
+damaged  damages COUNT areas and makes every kind of call on each: one that isn't sound
+         must be refused with 1, without any change
+
+COUNT and SEED are numbers below 2^64; a seed fixes the calls. DEPTH is at most 8.
+Exit status: 0 if nothing differs, 1 if something does, 2 if called wrongly.
+";
+
+/// Longest short lists: 20 times as many with each call more.
+const DEEPEST: usize = 8;
+
+fn main() -> ExitCode {
+    let arguments: Vec<String> = std::env::args().skip(1).collect();
+    let arguments: Vec<&str> = arguments.iter().map(String::as_str).collect();
+    let done = match arguments[..] {
+        ["--help" | "-h"] => {
+            print!("{HELP}");
+            return ExitCode::SUCCESS;
+        }
+        ["random", count, seed] => numbers(count, seed).map(random),
+        ["short", depth] => depth_of(depth).map(all_short),
+        ["damaged", count, seed] => numbers(count, seed).map(damage),
+        _ => Err("expected `random`, `short` or `damaged` with their numbers".to_string()),
+    };
+    match done {
+        Ok(Ok(report)) => {
+            println!("{report}");
+            ExitCode::SUCCESS
+        }
+        Ok(Err(why)) => {
+            println!("{why}");
+            ExitCode::FAILURE
+        }
+        Err(why) => {
+            eprintln!("board: {why}; see board --help");
+            ExitCode::from(2)
+        }
+    }
+}
+
+fn random((count, seed): (u64, u64)) -> Result<String, String> {
+    runs::random(count, seed)
+        .map(|tally| report(&tally))
+        .map_err(|finding| format!("seed {seed}, {finding}"))
+}
+
+fn depth_of(text: &str) -> Result<usize, String> {
+    let depth = text.parse().ok();
+    depth
+        .filter(|depth| *depth <= DEEPEST)
+        .ok_or_else(|| format!("DEPTH must be a number up to {DEEPEST}, not `{text}`"))
+}
+
+fn all_short(depth: usize) -> Result<String, String> {
+    short::short(depth)
+        .map(|tally| report(&tally))
+        .map_err(|finding| format!("a short list, {finding}"))
+}
+
+fn damage((count, seed): (u64, u64)) -> Result<String, String> {
+    damaged::damaged(count, seed)
+        .map(|report| format!("{report}, 0 differences"))
+        .map_err(|why| format!("seed {seed}, {why}"))
+}
+
+fn report(tally: &Tally) -> String {
+    format!("{tally}\n{} calls, 0 differences", tally.total())
+}

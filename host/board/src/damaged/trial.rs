@@ -1,0 +1,120 @@
+//! Calls on an area that may be damaged.
+
+use crate::area;
+use crate::calls::on_port;
+use crate::pair::{UNTOUCHED, UNTOUCHED_IMAGE};
+use crate::port::Port;
+use carv_compare::board::call::Call;
+use carv_compare::board::reference::{Reference, UNSOUND};
+
+/// A board of the port, and what it was lent.
+pub struct Trial {
+    port: Port,
+    lent: Port,
+    /// Calls made.
+    pub calls: u64,
+}
+
+impl Trial {
+    /// This area lent with so many answer words, and an image of so many bytes.
+    pub fn new(area: Vec<u8>, words: usize, image_bytes: usize) -> Self {
+        let lent = Port {
+            area,
+            out: vec![UNTOUCHED[0]; words],
+            image: vec![UNTOUCHED_IMAGE[0]; image_bytes],
+        };
+        Self {
+            port: lent.clone(),
+            lent,
+            calls: 0,
+        }
+    }
+
+    /// The area as it is lent.
+    pub fn area(&self) -> &[u8] {
+        &self.lent.area
+    }
+
+    /// What the port says of the area.
+    pub fn is_sound(&self) -> bool {
+        self.port.is_sound()
+    }
+
+    /// Lends everything as it was.
+    fn reset(&mut self) {
+        self.port.area.copy_from_slice(&self.lent.area);
+        self.port.out.copy_from_slice(&self.lent.out);
+        self.port.image.copy_from_slice(&self.lent.image);
+    }
+
+    fn call(&mut self, call: Call) -> u64 {
+        self.calls += 1;
+        on_port(call, &mut self.port)
+    }
+
+    /// Whether the call is refused with this number and leaves all that it is lent.
+    pub fn refuses(&mut self, call: Call, number: u64) -> Result<(), String> {
+        let found = self.call(call);
+        self.refused(found, number)
+            .map_err(|why| format!("{call}: {why}"))
+    }
+
+    /// The same for the call that fills an image, whose length is wrong.
+    pub fn refuses_image(&mut self) -> Result<(), String> {
+        self.calls += 1;
+        let found = self.port.fill_image();
+        self.refused(found, UNSOUND)
+            .map_err(|why| format!("the image call: {why}"))
+    }
+
+    fn refused(&self, found: u64, number: u64) -> Result<(), String> {
+        if found != number {
+            return Err(format!("the number is {found}, not {number}"));
+        }
+        if self.port.out != self.lent.out {
+            let (found, lent) = (&self.port.out, &self.lent.out);
+            return Err(format!("the answer words are {found:?}, not {lent:?}"));
+        }
+        if self.port.area != self.lent.area {
+            return Err("the area was changed".to_string());
+        }
+        if self.port.image != self.lent.image {
+            return Err("the image was changed".to_string());
+        }
+        Ok(())
+    }
+
+    /// Whether the call isn't refused with 1, leaves a sound area, and leaves answer words and
+    /// image if it is refused.
+    pub fn does_not_refuse(&mut self, call: Call) -> Result<(), String> {
+        let found = self.call(call);
+        let sound = self.port.is_sound();
+        let untouched = self.port.out == self.lent.out && self.port.image == self.lent.image;
+        self.reset();
+        match found {
+            UNSOUND => Err(format!("{call}: refused with 1")),
+            _ if !sound => Err(format!("{call}: is_sound says no afterwards")),
+            0 => Ok(()),
+            _ if untouched => Ok(()),
+            _ => Err(format!("{call}: refused, and yet there is an answer")),
+        }
+    }
+
+    /// Whether an accepted opening leaves what the Rust's leaves.
+    pub fn opens(&mut self, call: Call) -> Result<(), String> {
+        let mut reference = Reference::default();
+        let answer = reference.call(call);
+        let mut expected = vec![0; area::BYTES];
+        area::write_snapshot(reference.state(), &mut expected);
+        let number = self.call(call);
+        let as_expected = self.port.area == expected && self.port.out == self.lent.out;
+        self.reset();
+        if number != answer.number {
+            return Err(format!("{call}: the number is {number}, not 0"));
+        }
+        match as_expected {
+            true => Ok(()),
+            false => Err(format!("{call}: not as the Rust opens")),
+        }
+    }
+}

@@ -1,0 +1,177 @@
+//! The model's registry.
+
+use super::{Done, Mistake, Model, ask, planted};
+use crate::area::ObjectRow;
+use carv_compare::board::{BUDGET, OBJECTS};
+use carv_compare::state::free;
+use carv_oracle::account::{Account, PERIOD};
+
+impl Model {
+    pub(super) fn object(&mut self, id: u64) -> Result<&mut ObjectRow, u64> {
+        let mut rows = self.0.objects.iter_mut();
+        rows.find(|row| row.id == id).ok_or(7)
+    }
+
+    pub(super) fn budget(&mut self, id: u64) -> Result<&mut Account, u64> {
+        let row = self.object(id)?;
+        ask(7, row.kind == BUDGET)?;
+        Ok(&mut row.account)
+    }
+
+    fn ask_place(&self) -> Result<(), u64> {
+        let places = OBJECTS - usize::from(planted(Mistake::TableFullTooEarly));
+        let last = u64::MAX - u64::from(planted(Mistake::LastIdTooEarly));
+        ask(6, self.0.objects.len() < places && self.0.next_id < last)
+    }
+
+    fn add(&mut self, kind: u64, payer: u64, charge: u64, account: Account) -> Done {
+        let id = self.0.next_id;
+        self.0.next_id += 1;
+        self.0.objects.push(ObjectRow {
+            id,
+            kind,
+            payer,
+            charge,
+            account,
+        });
+        Ok(vec![id])
+    }
+
+    pub(super) fn create(&mut self, kind: u64, payer: u64, backing: bool) -> Done {
+        ask(4, (1..=9).contains(&kind))?;
+        self.ask_place()?;
+        let created = [2, 3, 4, 5, 7].contains(&kind);
+        let bytes = [33_792, 16_384, 4_096, 128, 64, 128, 64, 64, 64][kind as usize - 1];
+        let account = self.budget(payer)?;
+        let backed = backing || ![2, 3].contains(&kind);
+        ask(13, !planted(Mistake::KindBeforeCharge) || created)?;
+        ask(14, !planted(Mistake::BackingBeforeKind) || backed)?;
+        ask(12, covers(account, bytes))?;
+        ask(13, created)?;
+        ask(14, backed)?;
+        account.memory_used += bytes;
+        self.add(kind, payer, bytes, Account::default())
+    }
+
+    pub(super) fn insert(&mut self, kind: u64, payer: u64, bytes: u64) -> Done {
+        ask(4, (1..=9).contains(&kind) && kind != BUDGET)?;
+        self.ask_place()?;
+        let account = self.budget(payer)?;
+        ask(12, covers(account, bytes))?;
+        account.memory_used += bytes;
+        self.add(kind, payer, bytes, Account::default())
+    }
+
+    pub(super) fn create_budget(&mut self, parent: u64, cpu: u64, memory: u64, time: u64) -> Done {
+        self.ask_place()?;
+        let account = self.budget(parent)?;
+        ask(12, 128 <= free(account))?;
+        let before = *account;
+        renew(account, time);
+        let covered = cpu <= account.cpu_left && memory <= free(account) - 128;
+        if !covered && planted(Mistake::RefusedCarveForgetsRenewal) {
+            *account = before;
+        }
+        if !covered && planted(Mistake::RefusedCarveKeepsCharge) {
+            account.memory_used += 128;
+        }
+        ask(12, covered)?;
+        account.memory_used += 128;
+        account.cpu_left -= cpu;
+        account.cpu_reserved += cpu;
+        account.memory_reserved += memory;
+        let late = planted(Mistake::ChildStartsAtTime);
+        let child = Account {
+            cpu_allowance: cpu,
+            memory_limit: memory,
+            period_start: if late { time } else { account.period_start },
+            cpu_left: cpu,
+            ..Account::default()
+        };
+        self.add(BUDGET, parent, 128, child)
+    }
+
+    pub(super) fn charge_more(&mut self, id: u64, bytes: u64) -> Done {
+        let payer = self.object(id)?.payer;
+        let account = self.budget(payer)?;
+        ask(12, covers(account, bytes))?;
+        account.memory_used += bytes;
+        self.object(id)?.charge += bytes;
+        Ok(vec![])
+    }
+
+    pub(super) fn uncharge(&mut self, id: u64, bytes: u64) -> Done {
+        let row = self.object(id)?;
+        let bytes = match planted(Mistake::UnchargeAboveCharge) {
+            true => bytes.min(row.charge),
+            false => bytes,
+        };
+        ask(11, bytes <= row.charge)?;
+        row.charge -= bytes;
+        let payer = row.payer;
+        self.budget(payer)?.memory_used -= bytes;
+        Ok(vec![])
+    }
+
+    pub(super) fn remove(&mut self, id: u64) -> Done {
+        let row = *self.object(id)?;
+        ask(9, id != 1)?;
+        ask(10, row.kind != BUDGET || !self.pays(id))?;
+        self.0.objects.retain(|row| row.id != id);
+        if planted(Mistake::IdsGivenAgain) && id + 1 == self.0.next_id {
+            self.0.next_id = id;
+        }
+        let account = self.budget(row.payer)?;
+        account.cpu_reserved -= row.account.cpu_allowance;
+        account.memory_reserved -= row.account.memory_limit;
+        account.memory_used -= row.charge;
+        if planted(Mistake::RemovalGivesCpuBack) {
+            account.cpu_left += row.account.cpu_allowance;
+        }
+        Ok(vec![])
+    }
+
+    pub(super) fn pays(&self, id: u64) -> bool {
+        let itself = planted(Mistake::RootPaysForItself);
+        let mut rows = self.0.objects.iter();
+        rows.any(|row| row.payer == id && (itself || row.id != id))
+    }
+
+    pub(super) fn refill(&mut self, id: u64, time: u64) -> Done {
+        let account = self.budget(id)?;
+        Ok(vec![renew(account, time).into()])
+    }
+
+    pub(super) fn charge_cpu(&mut self, id: u64, ns: u64, time: u64) -> Done {
+        let account = self.budget(id)?;
+        let before = *account;
+        renew(account, time);
+        let covered = ns <= account.cpu_left;
+        if !covered && planted(Mistake::RefusedCpuChargeForgetsRenewal) {
+            *account = before;
+        }
+        ask(12, covered)?;
+        account.cpu_left -= ns;
+        Ok(vec![])
+    }
+}
+
+fn covers(account: &Account, bytes: u64) -> bool {
+    bytes <= free(account) && !planted(Mistake::EveryChargeRefused)
+}
+
+pub(super) fn renew(account: &mut Account, time: u64) -> bool {
+    let Some(passed) = time.checked_sub(account.period_start) else {
+        return false;
+    };
+    let due = passed >= PERIOD;
+    if due {
+        let whole = !planted(Mistake::StartSetToTime);
+        account.period_start = time - if whole { passed % PERIOD } else { 0 };
+        account.cpu_left = account.cpu_allowance - account.cpu_reserved;
+        if planted(Mistake::RenewalForgetsReservations) {
+            account.cpu_left = account.cpu_allowance;
+        }
+    }
+    due
+}

@@ -1,0 +1,164 @@
+//! The port and the Rust side by side.
+
+use crate::area;
+use crate::calls::{self, on_port};
+use crate::port::{IMAGE_BYTES, Port};
+use carv_compare::board::IDLE;
+use carv_compare::board::call::{Call, Edit, Step};
+use carv_compare::board::reference::{ANSWER_WORDS, Answer, Reference};
+use carv_oracle::Snapshot;
+
+/// What the answer words hold before each call: a call must leave those without a use as they are.
+pub const UNTOUCHED: [u64; ANSWER_WORDS] = [0xa5a5_a5a5_a5a5_a5a5; ANSWER_WORDS];
+/// What the image holds before each call that is lent it.
+pub const UNTOUCHED_IMAGE: [u8; IMAGE_BYTES] = [0xa5; IMAGE_BYTES];
+
+/// A board of the port and one of the Rust, in the same state.
+pub struct Pair {
+    port: Port,
+    reference: Reference,
+    /// The area that the port must have.
+    expected: Vec<u8>,
+}
+
+/// What differs, in a sentence.
+pub type Difference = String;
+
+impl Default for Pair {
+    fn default() -> Self {
+        Self::new()
+    }
+}
+
+impl Pair {
+    /// Both before their opening, the area full of noise.
+    pub fn new() -> Self {
+        let noise = vec![0x5a; area::BYTES];
+        Self {
+            port: Port::new(noise.clone()),
+            reference: Reference::default(),
+            expected: noise,
+        }
+    }
+
+    /// The state that both are in.
+    pub fn state(&self) -> &Snapshot {
+        self.reference.state()
+    }
+
+    /// The area that holds this state.
+    pub fn area(&self) -> &[u8] {
+        &self.expected
+    }
+
+    /// Makes a call on both, compares number, answer words, image, area and soundness, and answers
+    /// the number; or makes an edit on both.
+    ///
+    /// # Errors
+    /// What differs.
+    pub fn step(&mut self, step: Step) -> Result<u64, Difference> {
+        match step {
+            Step::Call(call) => self.call(call),
+            Step::Edit(edit) => {
+                self.edit(edit);
+                Ok(0)
+            }
+        }
+    }
+
+    /// The same for a call.
+    ///
+    /// # Errors
+    /// What differs.
+    pub fn call(&mut self, call: Call) -> Result<u64, Difference> {
+        let answer = self.reference.call(call);
+        if self.reference.is_open() && !call.op().is_reading() {
+            area::write_snapshot(self.reference.state(), &mut self.expected);
+        }
+        self.port.out.copy_from_slice(&UNTOUCHED);
+        self.port.image.copy_from_slice(&UNTOUCHED_IMAGE);
+        let found = on_port(call, &mut self.port);
+        self.compare(found, &answer)?;
+        self.compare_image(call, answer.number)?;
+        Ok(answer.number)
+    }
+
+    fn edit(&mut self, edit: Edit) {
+        self.reference.edit(edit);
+        area::write_snapshot(self.reference.state(), &mut self.expected);
+        calls::edit(edit, &mut self.port.area);
+    }
+
+    fn compare(&self, found: u64, answer: &Answer) -> Result<(), Difference> {
+        let Answer {
+            number,
+            written,
+            words,
+        } = *answer;
+        if found != number {
+            return Err(format!("the number is {found}, not {number}"));
+        }
+        let mut expected = UNTOUCHED;
+        expected[..written].copy_from_slice(&words[..written]);
+        same_words(&self.port.out, &expected)?;
+        if self.port.area != self.expected {
+            let difference = area::Difference {
+                found: &self.port.area,
+                expected: &self.expected,
+            };
+            return Err(difference.to_string());
+        }
+        let sound = self.port.is_sound();
+        if sound != self.reference.is_open() {
+            return Err(format!("is_sound says {sound}"));
+        }
+        Ok(())
+    }
+
+    /// An accepted creation fills the image, other calls leave it. At an opening the call of its
+    /// own fills it as the Rust fills those of thread 0 and idle.
+    fn compare_image(&mut self, call: Call, number: u64) -> Result<(), Difference> {
+        let expected = match call {
+            Call::CreateUserThread { id, .. } if number == 0 => self.reference.image(id),
+            _ => UNTOUCHED_IMAGE,
+        };
+        same_image(&self.port.image, &expected)?;
+        if let (Call::Open { .. }, 0) = (call, number) {
+            let found = self.port.fill_image();
+            if found != 0 {
+                return Err(format!("the image call: the number is {found}, not 0"));
+            }
+            same_image(&self.port.image, &self.reference.image(0))?;
+            same_image(&self.port.image, &self.reference.image(IDLE))?;
+        }
+        Ok(())
+    }
+}
+
+fn same_words(found: &[u64], expected: &[u64]) -> Result<(), Difference> {
+    let name = |word: &u64| match *word == UNTOUCHED[0] {
+        true => "untouched".to_string(),
+        false => word.to_string(),
+    };
+    first_differing(found, expected).map_or(Ok(()), |(place, found, expected)| {
+        let (found, expected) = (name(found), name(expected));
+        Err(format!("answer word {place} is {found}, not {expected}"))
+    })
+}
+
+fn same_image(found: &[u8], expected: &[u8]) -> Result<(), Difference> {
+    first_differing(found, expected).map_or(Ok(()), |(place, found, expected)| {
+        Err(format!(
+            "byte {place} of the image is {found:#x}, not {expected:#x}"
+        ))
+    })
+}
+
+fn first_differing<'a, T: PartialEq>(
+    found: &'a [T],
+    expected: &'a [T],
+) -> Option<(usize, &'a T, &'a T)> {
+    let mut places = found.iter().zip(expected).enumerate();
+    let (place, (found, expected)) = places.find(|(_, (found, expected))| found != expected)?;
+    Some((place, found, expected))
+}

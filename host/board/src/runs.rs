@@ -1,0 +1,78 @@
+//! Random lists of calls, made on the port and on the Rust.
+
+use crate::pair::{Difference, Pair};
+use crate::shorten::{Finding, shorten};
+use crate::tally::Tally;
+use carv_compare::board::call::{Call, Step};
+use carv_compare::board::walk::Walk;
+use carv_compare::progress::Progress;
+
+/// Boards that random steps are made on, one after the other.
+pub struct RandomBoards {
+    /// Makes up the steps.
+    pub walk: Walk,
+    /// The current board.
+    pub pair: Pair,
+    since_opening: Vec<Step>,
+}
+
+impl RandomBoards {
+    /// Boards whose steps the seed fixes.
+    pub fn new(seed: u64) -> Self {
+        Self {
+            walk: Walk::new(seed),
+            pair: Pair::new(),
+            since_opening: Vec::new(),
+        }
+    }
+
+    /// Makes the next step and answers it with its number.
+    ///
+    /// # Errors
+    /// A difference, with the steps since the board's opening.
+    pub fn step(&mut self) -> Result<(Step, u64), Finding> {
+        let step = self.walk.next_step(self.pair.state());
+        self.since_opening.push(step);
+        let done = self.pair.step(step);
+        let number = done.map_err(|difference| self.finding(difference))?;
+        if number == 0 && matches!(step, Step::Call(Call::Open { .. })) {
+            self.since_opening.clear();
+            self.since_opening.push(step);
+        }
+        Ok((step, number))
+    }
+
+    fn finding(&self, difference: Difference) -> Finding {
+        Finding {
+            steps: self.since_opening.clone(),
+            difference,
+        }
+    }
+}
+
+/// Makes `count` random calls, which the seed fixes, and compares after each.
+///
+/// # Errors
+/// The first difference, with a list of calls that is as it came.
+pub fn first_difference(count: u64, seed: u64) -> Result<Tally, Finding> {
+    let mut boards = RandomBoards::new(seed);
+    let mut tally = Tally::default();
+    let mut progress = Progress::new(count);
+    while tally.total() < count {
+        let (step, number) = boards.step()?;
+        if let Step::Call(call) = step {
+            tally.count(call, number, boards.pair.state());
+        }
+        progress.tell(tally.total());
+    }
+    progress.end();
+    Ok(tally)
+}
+
+/// The same.
+///
+/// # Errors
+/// The first difference, with the shortest list found.
+pub fn random(count: u64, seed: u64) -> Result<Tally, Finding> {
+    first_difference(count, seed).map_err(|finding| shorten(&finding.steps).unwrap_or(finding))
+}

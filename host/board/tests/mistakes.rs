@@ -1,0 +1,238 @@
+//! The comparison finds mistakes: each is planted in the mock in turn.
+
+use carv_board_host::mock::{Mistake, plant};
+use carv_board_host::{damaged, runs, short, sound};
+use carv_compare::board::call::Op;
+
+const SEED: u64 = 1;
+
+/// Runs with no mistake planted afterwards, whatever happens.
+fn with<T>(mistake: Mistake, run: impl FnOnce() -> T) -> T {
+    plant(Some(mistake));
+    let found = run();
+    plant(None);
+    found
+}
+
+#[test]
+fn random_lists_reach_every_answer() {
+    let tally = runs::random(100_000, SEED).expect("no difference");
+    for (op, numbers) in [
+        (Op::Open, &[0, 2][..]),
+        (Op::Create, &[0, 4, 6, 7, 12, 13, 14]),
+        (Op::Insert, &[0, 4, 6, 7, 12]),
+        (Op::CreateBudget, &[0, 6, 7, 12]),
+        (Op::ChargeMore, &[0, 7, 12]),
+        (Op::Uncharge, &[0, 7, 11]),
+        (Op::Remove, &[0, 7, 9, 10]),
+        (Op::Refill, &[0, 7]),
+        (Op::ChargeCpu, &[0, 7, 12]),
+        (Op::PaysForAnything, &[0]),
+        (Op::Account, &[0, 7]),
+        (Op::ChargeOf, &[0, 7]),
+        (Op::CreateUserThread, &[0, 5, 6, 14]),
+        (Op::Start, &[0, 7, 8]),
+        (Op::BlockCurrent, &[0, 4, 8]),
+        (Op::Wake, &[0, 7, 8]),
+        (Op::IsBlockedOn, &[0, 4]),
+        (Op::Kill, &[0, 4, 5, 7]),
+        (Op::Tick, &[0, 3]),
+        (Op::Plan, &[0, 3]),
+        (Op::Thread, &[0, 7]),
+        (Op::Current, &[0]),
+        (Op::Switches, &[0]),
+        (Op::ExitOf, &[0]),
+    ] {
+        for number in numbers {
+            let found = tally.of(op, *number);
+            assert!(found > 4, "{op:?} with {number}: {found}");
+        }
+    }
+    let (objects, threads, kills) = tally.most();
+    assert_eq!((objects, threads), (512, 128));
+    assert!(kills > 33);
+}
+
+#[test]
+fn damage_breaks_every_rule() {
+    let report = damaged::damaged(8_000, SEED).expect("no difference");
+    for rule in sound::rules() {
+        let found = report.broken(rule);
+        assert!(found > 10, "{rule}: {found}");
+    }
+}
+
+#[test]
+fn short_lists_agree() {
+    assert!(short::short(2).is_ok());
+}
+
+#[test]
+fn random_lists_find_mistakes_in_the_registry() {
+    for mistake in [
+        Mistake::EveryChargeRefused,
+        Mistake::RemovalGivesCpuBack,
+        Mistake::StartSetToTime,
+        Mistake::RenewalForgetsReservations,
+        Mistake::KindBeforeCharge,
+        Mistake::BackingBeforeKind,
+        Mistake::RefusedCarveForgetsRenewal,
+        Mistake::RefusedCarveKeepsCharge,
+        Mistake::RefusedCpuChargeForgetsRenewal,
+        Mistake::ChildStartsAtTime,
+        Mistake::TableFullTooEarly,
+        Mistake::LastIdTooEarly,
+        Mistake::IdsGivenAgain,
+        Mistake::UnchargeAboveCharge,
+        Mistake::RootPaysForItself,
+    ] {
+        random_lists_find(mistake);
+    }
+}
+
+#[test]
+fn random_lists_find_mistakes_in_threads() {
+    for mistake in [
+        Mistake::PlanningRenewsEveryBudget,
+        Mistake::PlanningRenewsNoBudget,
+        Mistake::TickRefusedWhereLessIsLeft,
+        Mistake::OnlyFirstTickBooked,
+        Mistake::RunTicksMadeUp,
+        Mistake::RunTicksStopAtTheLast,
+        Mistake::SwitchesMadeUp,
+        Mistake::SwitchesStopAtTheLast,
+        Mistake::LastTickTooEarly,
+        Mistake::AlwaysNoSwitch,
+        Mistake::AlwaysIdle,
+        Mistake::IdleInQueue,
+        Mistake::IdleReadyWhenLeft,
+        Mistake::PutBackInFront,
+        Mistake::PutBackAlsoBlocked,
+        Mistake::DeadThreadKept,
+        Mistake::KilledCurrentGoesAtOnce,
+        Mistake::KilledStaysInQueue,
+        Mistake::SecondKillNotLogged,
+        Mistake::NewestExitForgotten,
+        Mistake::ExitLogTooShort,
+        Mistake::ExitOfGivesNewest,
+        Mistake::MissingBudgetHasTime,
+        Mistake::SleepersByFallingId,
+        Mistake::SleepersWakeLate,
+        Mistake::EveryWaitIsASleep,
+        Mistake::SleepersKeepResults,
+        Mistake::WakeKeepsResults,
+        Mistake::WakeKeepsWait,
+        Mistake::StartKeepsContext,
+        Mistake::StackBeforePlace,
+        Mistake::BudgetLookedUp,
+        Mistake::DeadThreadBlocks,
+        Mistake::MissingThreadBeforeWait,
+        Mistake::KillForgetsWait,
+        Mistake::ThreadsFullTooEarly,
+    ] {
+        random_lists_find(mistake);
+    }
+}
+
+#[test]
+fn random_lists_find_mistakes_in_what_is_lent() {
+    for mistake in [
+        Mistake::StateHandedBack,
+        Mistake::RowNotCleared,
+        Mistake::ThreadRowNotCleared,
+        Mistake::AnswerOnRefusal,
+        Mistake::AnswerPastItsWords,
+        Mistake::RootWrittenForTheKernel,
+        Mistake::NoSwitchWritesIds,
+        Mistake::OpeningKeepsOldRows,
+        Mistake::ImageNotFilled,
+        Mistake::ImageOnRefusal,
+        Mistake::ImageOfOtherBytes,
+    ] {
+        random_lists_find(mistake);
+    }
+}
+
+fn random_lists_find(mistake: Mistake) {
+    let found = with(mistake, || runs::first_difference(300_000, SEED));
+    assert!(found.is_err(), "{mistake:?} was not found");
+}
+
+#[test]
+fn short_lists_find_mistakes_in_calls() {
+    for mistake in [
+        Mistake::RemovalGivesCpuBack,
+        Mistake::StartSetToTime,
+        Mistake::RefusedCarveForgetsRenewal,
+        Mistake::RefusedCarveKeepsCharge,
+        Mistake::UnchargeAboveCharge,
+        Mistake::RowNotCleared,
+        Mistake::PlanningRenewsEveryBudget,
+        Mistake::PlanningRenewsNoBudget,
+        Mistake::TickRefusedWhereLessIsLeft,
+        Mistake::OnlyFirstTickBooked,
+        Mistake::RunTicksMadeUp,
+        Mistake::SwitchesMadeUp,
+        Mistake::AlwaysNoSwitch,
+        Mistake::AlwaysIdle,
+        Mistake::PutBackInFront,
+        Mistake::PutBackAlsoBlocked,
+        Mistake::DeadThreadKept,
+        Mistake::KilledCurrentGoesAtOnce,
+        Mistake::KilledStaysInQueue,
+        Mistake::MissingBudgetHasTime,
+        Mistake::SleepersWakeLate,
+        Mistake::EveryWaitIsASleep,
+    ] {
+        let found = with(mistake, || short::short(3));
+        assert!(found.is_err(), "{mistake:?} was not found");
+    }
+}
+
+#[test]
+fn damaged_areas_find_mistakes_in_question_1() {
+    for mistake in [
+        Mistake::SumsWrap,
+        Mistake::RestNotAsked,
+        Mistake::AccountsOfOthersNotAsked,
+        Mistake::PayerKindNotAsked,
+        Mistake::AnswerLengthNotAsked,
+        Mistake::ImageLengthNotAsked,
+        Mistake::ThreadIdsNotAsked,
+        Mistake::StatesNotAsked,
+        Mistake::WaitsNotAsked,
+        Mistake::WaitsOfOthersNotAsked,
+        Mistake::BudgetFlagNotAsked,
+        Mistake::SpaceFlagNotAsked,
+        Mistake::QueueTwiceNotAsked,
+        Mistake::QueueStatesNotAsked,
+        Mistake::ReadyOutsideQueueNotAsked,
+        Mistake::IdleInQueueNotAsked,
+        Mistake::SecondDeadNotAsked,
+        Mistake::SecondRunningNotAsked,
+        Mistake::CurrentNotAsked,
+        Mistake::InactiveCurrentNotAsked,
+        Mistake::IdleNotAsked,
+        Mistake::IdleStateNotAsked,
+        Mistake::IdleCurrentNotAsked,
+        Mistake::BudgetsOfThreadsNotAsked,
+        Mistake::CausesNotAsked,
+    ] {
+        let found = with(mistake, || damaged::damaged(8_000, SEED));
+        assert!(found.is_err(), "{mistake:?} was not found");
+    }
+}
+
+#[test]
+fn findings_are_short() {
+    for (mistake, most) in [
+        (Mistake::IdsGivenAgain, 6),
+        (Mistake::AlwaysIdle, 3),
+        (Mistake::MissingBudgetHasTime, 8),
+        (Mistake::ExitOfGivesNewest, 6),
+    ] {
+        let found = with(mistake, || runs::random(300_000, SEED));
+        let finding = found.expect_err("a finding");
+        assert!(finding.steps.len() <= most, "{mistake:?}: {finding}");
+    }
+}
