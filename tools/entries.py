@@ -93,11 +93,11 @@ def c_function(name, params, definition, module, reading, comment):
             numbers.append(p)
             terms.append(n)
     call = ' '.join([definition] + terms)
-    spec = 'by-registry (%s)' % call if module == REGISTRY else call
+    spec = 'on-objects (objects.%s)' % call if module == REGISTRY else call
     left = 'entry' if reading else 'exit'
     text = '\n#[no_mangle]\n'
     text += signature('pub extern "C" fn carv_' + name, ['area: &[u8]' if reading else 'area: &mut [u8]'] + numbers + ['out: &mut [u64]'], 'u64')
-    text += '    ensures { λ r. ⌜ Called (%s) (now (area .entry)) (now (out .entry)) r (now (area .%s)) (now (out .exit)) ⌝ }\n' % (spec, left)
+    text += '    ensures { λ r. ⌜ Exported (%s) (now (area .entry)) (now (out .entry)) r (now (area .%s)) (now (out .exit)) ⌝ }\n' % (spec, left)
     text += '{\n    if out.len() != WORDS {\n        return 1;\n    }\n' + made
     text += '    let answer = crate::%s(%s);\n    report(answer, out)\n}\n' % (name, ', '.join(['area'] + given))
     place = name.replace('_', '-')

@@ -5,7 +5,7 @@ use Prim.Native.Nat.{ℕ}
 use Rattle.carv_objects.specs.Answer as objects
 use Rattle.carv_scheduler.specs.declared.Answer.{Answer}
 use Rattle.carv_scheduler.specs.declared.Answer.the-variants.{Done, Registry, NoSwitch, Switch, SwitchToKernel, Ended, EndedNothing, Blocked, NotBlocked, Record, Figure, Cause, NoCause, Refused}
-use Rattle.carv_scheduler.specs.Scheduler.{Value, no-switch, switch, ended, is-blocked, record-of, figure, exit-cause, lift-value}
+use Rattle.carv_board.specs.Scheduler.{Value, no-switch, switch, ended, is-blocked, record-of, figure, exit-cause, lift-value}
 
 abbrev pub number : Answer → ℕ
 number Done = 0

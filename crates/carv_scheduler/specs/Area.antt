@@ -14,18 +14,18 @@ use Rattle.carv_area.specs.Keys.{keys}
 use Rattle.carv_area.specs.Zero.{allZero}
 use Rattle.carv_budget.specs.Account.{period}
 use Rattle.carv_objects.specs.Area as objects
-use Rattle.carv_scheduler.specs.declared.Wait.{Wait}
-use Rattle.carv_scheduler.specs.declared.Payer.{Payer}
-use Rattle.carv_scheduler.specs.declared.Space.{Space}
-use Rattle.carv_scheduler.specs.declared.Context.{Context}
-use Rattle.carv_scheduler.specs.declared.Results.{Results}
-use Rattle.carv_scheduler.specs.declared.Thread.{Thread}
-use Rattle.carv_scheduler.specs.declared.Exit.{Exit}
+use Rattle.carv_board.specs.declared.Wait.{Wait}
+use Rattle.carv_board.specs.declared.Payer.{Payer}
+use Rattle.carv_board.specs.declared.Space.{Space}
+use Rattle.carv_board.specs.declared.Context.{Context}
+use Rattle.carv_board.specs.declared.Results.{Results}
+use Rattle.carv_board.specs.declared.Thread.{Thread}
+use Rattle.carv_board.specs.declared.Exit.{Exit}
 use Rattle.carv_scheduler.specs.declared.Answer.{Answer}
 use Rattle.carv_scheduler.specs.declared.Answer.the-variants.{Done, Refused}
 use Rattle.carv_scheduler.specs.Answer.{number, value}
-use Rattle.carv_scheduler.specs.Scheduler.{Board, Answers, opening}
-use Rattle.carv_scheduler.specs.Sound.{sound}
+use Rattle.carv_board.specs.Scheduler.{Board, Answers, opening}
+use Rattle.carv_board.specs.Sound.{sound}
 
 -- The parts.
 

@@ -14,7 +14,7 @@ use Rattle.carv_area.specs.Stored.{Stored, one, wide-one}
 use Rattle.carv_objects.specs.AreaExact as objects
 use Rattle.carv_objects.specs.AreaExact.{part-bytes}
 use Rattle.carv_scheduler.specs.declared.Answer.{Answer}
-use Rattle.carv_scheduler.specs.Scheduler.{Board, Answers}
+use Rattle.carv_board.specs.Scheduler.{Board, Answers}
 use Rattle.carv_scheduler.specs.Area.{registry-part, head, threads-part, queue-part, exits-part, thread-fields, exit-fields, decode, sound-area, Serves}
 use Rattle.carv_scheduler.specs.Rows.{wide, wide-exit}
 use Rattle.carv_scheduler.specs.Formed.{Formed}

@@ -1,15 +1,14 @@
 -- A sound area of the board is well formed and says a sound board, and an area that is well formed and says one is sound. Assumes nothing.
 use mathlib.Core.Path.{_≡_, refl, sym, ap, _∙_, subst}
-use mathlib.Core.Bool.{Bool, true, _&&_}
-use mathlib.Core.List.{List, [], _∷_}
-use Prim.Native.Nat.{ℕ, zero, suc, _+_, _*_, _/_, _≤_, _<_}
-use native.Mathlib.Nat.{add-assoc, mul-one}
+use mathlib.Core.Bool.{true}
+use mathlib.Core.List.{List}
+use Prim.Native.Nat.{ℕ, zero, suc, _+_, _*_, _≤_, _<_}
+use native.Mathlib.Nat.{add-assoc}
 use native.Mathlib.Omega.{arith}
 use lib.Dec.{eqb, leb}
-use lib.ListN.{length, getD, drop}
+use lib.ListN.{length, getD}
 use lib.Seq.{drop-at}
 use borrow.Author.Tests.{eqb-true, eq-eqb, leb-true, le-leb}
-use Rattle.carv_area.specs.Table.{Row}
 use Rattle.carv_area.specs.Lists.{tab, length-tab, getD-tab}
 use Rattle.carv_area.specs.Words.{words}
 use Rattle.carv_area.specs.WordLaws.{length-words}
@@ -17,16 +16,14 @@ use Rattle.carv_area.specs.Moves.{zeros}
 use Rattle.carv_area.specs.Parts.{part, length-part}
 use Rattle.carv_area.specs.Zero.{allZero, zeros-zero}
 use Rattle.carv_area.specs.Rows.{Holds, flat, length-flat, holds-of}
-use Rattle.carv_area.specs.Keys.{keys, length-keys, getD-keys}
-use Rattle.carv_area.specs.Stored.{Stored, stored, Queue, one, wide-one}
+use Rattle.carv_area.specs.Keys.{keys}
+use Rattle.carv_area.specs.Stored.{stored, one, wide-one}
 use Rattle.carv_budget.specs.Laws.{first, second}
 use Rattle.carv_objects.specs.Area as objects
-use Rattle.carv_scheduler.specs.declared.Thread.{Thread}
-use Rattle.carv_scheduler.specs.declared.Exit.{Exit}
-use Rattle.carv_scheduler.specs.Scheduler.{Board}
-use Rattle.carv_scheduler.specs.Sound.{sound}
-use Rattle.carv_scheduler.specs.SoundFacts.{Sound}
-use Rattle.carv_scheduler.specs.SoundLaws.{sound-told, sound-shown}
+use Rattle.carv_board.specs.Scheduler.{Board}
+use Rattle.carv_board.specs.Sound.{sound}
+use Rattle.carv_board.specs.SoundFacts.{Sound}
+use Rattle.carv_board.specs.SoundLaws.{sound-told, sound-shown}
 use Rattle.carv_scheduler.specs.Area.{registry-part, threads-part, queue-part, exits-part, thread-fields, thread-at, exit-fields, exit-at, threads-in, exits-in, decode, behind, sound-area, Is}
 use Rattle.carv_scheduler.specs.Rows.{no-row, wide, no-exit, wide-exit}
 use Rattle.carv_scheduler.specs.Formed.{WellFormed, Leaves}

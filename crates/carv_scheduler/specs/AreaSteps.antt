@@ -1,30 +1,29 @@
 -- What the functions on one part of the board's area leave. Assumes nothing.
-use Prim.Native.Nat.{ℕ, zero, suc, _+_, _*_, _^_, _/_, _≤_, _<_}
+use Prim.Native.Nat.{ℕ, _+_, _*_, _^_, _/_, _≤_, _<_}
 use native.Mathlib.Omega.{arith}
-use mathlib.Core.Path.{_≡_, refl, sym, ap, _∙_, subst}
+use mathlib.Core.Path.{_≡_, refl, sym, ap, _∙_}
 use mathlib.Core.Option.{none}
-use mathlib.Core.List.{List, [], _∷_, _++_}
+use mathlib.Core.List.{List}
 use lib.ListN.{length, getD, set, length-set}
 use lib.Seq.{getD-set-same, getD-set-other}
-use Rattle.carv_area.specs.Table.{Row, at, put, Rising, rising-put}
+use Rattle.carv_area.specs.Table.{Row, at, put, rising-put}
 use Rattle.carv_area.specs.Words.{words}
 use Rattle.carv_area.specs.WordLaws.{length-words}
 use Rattle.carv_area.specs.Parts.{part, putPart, length-part}
 use Rattle.carv_area.specs.Moves.{cutRow, openRow}
 use Rattle.carv_area.specs.Rows.{removeAt, insertAt}
 use Rattle.carv_area.specs.Keys.{keys, findIn}
-use Rattle.carv_area.specs.Stored.{Stored, Keyed, Queue, stored-room, stored-set, stored-remove, stored-insert}
+use Rattle.carv_area.specs.Stored.{Keyed, stored-room, stored-set, stored-remove, stored-insert}
 use Rattle.carv_area.specs.Search.{rankIn}
 use Rattle.carv_area.specs.Lookup as lookup
-use Rattle.carv_area.specs.Lookup.{Located, Here, Gone}
+use Rattle.carv_area.specs.Lookup.{Located}
 use Rattle.carv_area.specs.declared.Found.{Found}
-use Rattle.carv_area.specs.declared.Found.the-variants.{At, Nothing}
 use Rattle.carv_objects.specs.AreaSteps.{rising-set, rising-remove}
-use Rattle.carv_scheduler.specs.declared.Thread.{Thread}
-use Rattle.carv_scheduler.specs.Scheduler.{Board}
-use Rattle.carv_scheduler.specs.Area.{head, threads-part, queue-part, exits-part, thread-fields, thread-at, decode}
+use Rattle.carv_board.specs.declared.Thread.{Thread}
+use Rattle.carv_board.specs.Scheduler.{Board}
+use Rattle.carv_scheduler.specs.Area.{head, threads-part, queue-part, thread-fields, thread-at, decode}
 use Rattle.carv_scheduler.specs.Rows.{row, no-row, wide, set-thread, thread-at-is}
-use Rattle.carv_scheduler.specs.Formed.{WellFormed, Leaves, head-written, threads-written, queue-written}
+use Rattle.carv_scheduler.specs.Formed.{WellFormed, Leaves, head-written, threads-written}
 
 abbrev pub with-head : (current switches : ℕ) → Board → Board
 with-head current switches b = record { registry = b .registry; threads = b .threads; queue = b .queue; current = current; switches = switches; exits = b .exits }
@@ -37,6 +36,9 @@ with-queue q b = record { registry = b .registry; threads = b .threads; queue = 
 
 -- the lengths of the parts
 module _ (a : List ℕ) (z : length a ≡ 68_144) where
+  pub length-registry : length (part 0 45_072 a) ≡ 45_072
+  length-registry = length-part 0 45_072 a (omega arith)
+
   pub length-head : length (part 45_072 16 a) ≡ 16
   length-head = length-part 45_072 16 a (omega arith)
 

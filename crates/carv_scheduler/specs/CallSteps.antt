@@ -3,57 +3,35 @@ use mathlib.Core.Path.{_≡_, refl, sym, ap, _∙_, subst}
 use mathlib.Core.Bool.{Bool, true, false, _&&_, true≢false}
 use mathlib.Core.List.{List, [], _∷_, _++_}
 use mathlib.Core.Option.{Option, some, none}
-use Prim.Native.Nat.{ℕ, _+_, _^_, _≤_, _<_}
-use native.Mathlib.Omega.{arith}
+use Prim.Native.Nat.{ℕ, _^_, _<_}
 use lib.Dec.{eqb}
 use lib.ListN.{length, getD, set}
 use borrow.Author.Tests.{eq-eqb, ne-eqb}
 use Rattle.carv_area.specs.Table.{Row, at, alter, put}
-use Rattle.carv_area.specs.Lookup.{Here, Gone, Located}
+use Rattle.carv_area.specs.Lookup.{Here, Located}
 use Rattle.carv_area.specs.declared.Found.{Found}
 use Rattle.carv_area.specs.declared.Found.the-variants.{At, Nothing}
 use Rattle.carv_objects.specs.Refines.{alter-known}
-use Rattle.carv_scheduler.specs.declared.Wait.{Wait}
-use Rattle.carv_scheduler.specs.declared.Context.{Context}
-use Rattle.carv_scheduler.specs.declared.Thread.{Thread}
-use Rattle.carv_scheduler.specs.Scheduler.{Board, idle, inactive, ready, running, blocked, is, no-wait, in-space, or-fresh, found, thread, has, become, started, join}
-use Rattle.carv_scheduler.specs.Scheduler as scheduler
-use Rattle.carv_scheduler.specs.SoundFacts.{Sound}
-use Rattle.carv_scheduler.specs.Steps.{other-state}
+use Rattle.carv_board.specs.declared.Context.{Context}
+use Rattle.carv_board.specs.declared.Thread.{Thread}
+use Rattle.carv_board.specs.Scheduler.{Board, idle, inactive, ready, running, blocked, is, in-space, found, thread, has, become, started, join}
+use Rattle.carv_board.specs.Scheduler as scheduler
+use Rattle.carv_board.specs.SoundFacts.{Sound}
+use Rattle.carv_board.specs.Steps.{other-state}
 use Rattle.carv_scheduler.specs.Rows.{row, no-row}
-use Rattle.carv_scheduler.specs.Formed.{WellFormed, Leaves, leaves-as}
-use Rattle.carv_scheduler.specs.Area.{decode}
+use Rattle.carv_scheduler.specs.RowWords.{with-state, state-of}
+use Rattle.carv_scheduler.specs.Places.{found-here, found-gone, here-has, here-thread, gone-has}
 use Rattle.carv_scheduler.specs.AreaSteps.{with-threads, with-queue, New}
 use Rattle.carv_scheduler.specs.Room.{queue-room}
 
--- what was found is a place, or none
-pub thread-here : (m : List (Row Thread)) (x : ℕ) (p : Found) → Located no-row m x p → (i : ℕ) → p ≡ At i → Here no-row m x i
-thread-here m x p l i e = subst (Located no-row m x) e l
-
-pub thread-gone : (m : List (Row Thread)) (x : ℕ) (p : Found) → Located no-row m x p → p ≡ Nothing → Gone m x
-thread-gone m x p l e = subst (Located no-row m x) e l
-
-pub gone-has : (m : List (Row Thread)) (x : ℕ) → Gone m x → has m x ≡ false
-gone-has m x g = ap found (g .is)
-
 -- the thread x stands at place i
 module _ (m : List (Row Thread)) (x i : ℕ) (h : Here no-row m x i) where
-  pub here-has : has m x ≡ true
-  here-has = ap found (h .is)
-
-  pub here-thread : thread m x ≡ getD m i no-row .it
-  here-thread = ap or-fresh (h .is)
-
   module _ (t : Thread) (e : t ≡ getD m i no-row .it) where
     pub here-is : (s : ℕ) → t .state ≡ s → is s (thread m x) ≡ true
-    here-is s q = eq-eqb (thread m x .state) s (ap (λ (u : Thread). u .state) (here-thread ∙ sym e) ∙ q)
+    here-is s q = eq-eqb (thread m x .state) s (ap (λ (u : Thread). u .state) (here-thread m x i h ∙ sym e) ∙ q)
 
     pub here-not : (s : ℕ) → (t .state ≡ s → ⊥) → is s (thread m x) ≡ false
-    here-not s q = ne-eqb (thread m x .state) s (λ z. q (ap (λ (u : Thread). u .state) (e ∙ sym here-thread) ∙ z))
-
-    -- a record written at its place
-    pub set-is : (f : Thread → Thread) (u : Thread) → u ≡ f t → set m i (row x u) ≡ alter x f m
-    set-is f u q = ap (λ (v : Thread). set m i (row x v)) (q ∙ ap f e) ∙ sym (h .changed f)
+    here-not s q = ne-eqb (thread m x .state) s (λ z. q (ap (λ (u : Thread). u .state) (e ∙ sym (here-thread m x i h)) ∙ z))
 
     pub alter-is : (f : Thread → Thread) (u : Thread) → u ≡ f t → alter x (λ _. u) m ≡ alter x f m
     alter-is f u q = alter-known m x (λ _. u) f (getD m i no-row .it) (h .is) (q ∙ ap f e)
@@ -84,18 +62,13 @@ pub started-is : (b : Board) (x i space cspace root : ℕ) (c : Context) (t : Th
 started-is b x i space cspace root c t h e u q =
     ap (λ (m : List (Row Thread)). scheduler.with-threads m (join (b .queue) x) b) (alter-is (b .threads) x i h t e (started (in-space space cspace root) c) u q)
 
--- `set_state`
-pub state-set : (b : Board) (x i state : ℕ) (w : Wait) (t : Thread) → Here no-row (b .threads) x i → t ≡ getD (b .threads) i no-row .it
-    → with-threads (set (b .threads) i (row x (become state w t))) b ≡ scheduler.with-threads (alter x (become state w) (b .threads)) (b .queue) b
-state-set b x i state w t h e = ap (λ (m : List (Row Thread)). scheduler.with-threads m (b .queue) b) (set-is (b .threads) x i h t e (become state w) (become state w t) refl)
-
 -- `current_place`: the current thread is there
 module _ (b : Board) (o : Sound b) (c : ℕ) (e : c ≡ b .current) (p : Found) (l : Located no-row (b .threads) c p) where
   pub current-found : (i : ℕ) → p ≡ At i → Here no-row (b .threads) (b .current) i
-  current-found i q = subst (λ (x : ℕ). Here no-row (b .threads) x i) e (thread-here (b .threads) c p l i q)
+  current-found i q = subst (λ (x : ℕ). Here no-row (b .threads) x i) e (found-here (b .threads) c p l i q)
 
   pub current-missed : p ≡ Nothing → (i : ℕ) → Here no-row (b .threads) (b .current) i
-  current-missed q i = absurd (true≢false (sym (o .current-here) ∙ ap (has (b .threads)) (sym e) ∙ gone-has (b .threads) c (thread-gone (b .threads) c p l q)))
+  current-missed q i = absurd (true≢false (sym (o .current-here) ∙ ap (has (b .threads)) (sym e) ∙ gone-has (b .threads) c (found-gone (b .threads) c p l q)))
 
 -- the tests of `is_blocked_on`, of the record u
 module _ (u : Thread) (kind number : ℕ) where
@@ -119,10 +92,10 @@ blocked-at m x i kind number h r e = rw (here-thread m x i h) e
 -- `has_thread`
 module _ (m : List (Row Thread)) (x : ℕ) (p : Found) (l : Located no-row m x p) where
   pub found-has : (i : ℕ) → p ≡ At i → true ≡ has m x
-  found-has i e = sym (here-has m x i (thread-here m x p l i e))
+  found-has i e = sym (here-has m x i (found-here m x p l i e))
 
   pub missed-has : p ≡ Nothing → false ≡ has m x
-  missed-has e = sym (gone-has m x (thread-gone m x p l e))
+  missed-has e = sym (gone-has m x (found-gone m x p l e))
 
 -- `create_user_thread`: the new id
 pub new-id : (b : Board) (x n : ℕ) → has (b .threads) x ≡ false → n ≡ length (b .threads) → n < 128 → x < 2 ^ 64 → New (b .threads) x
@@ -138,8 +111,9 @@ new-id b x n h e f low = record { fresh = absent-at (b .threads) x h; few = rw (
 pub created-is : (b : Board) (x : ℕ) (t u : Thread) → t ≡ u → with-threads (put x t (b .threads)) b ≡ scheduler.with-threads (put x u (b .threads)) (b .queue) b
 created-is b x t u e = ap (λ (v : Thread). with-threads (put x v (b .threads)) b) e
 
--- `block_current`: c is the current thread
-pub blocked-current : (b : Board) (c kind number : ℕ) → c ≡ b .current
-    → scheduler.with-threads (alter c (become blocked (scheduler.wait kind number)) (b .threads)) (b .queue) b
+-- `block_current`: the current thread stands at place i
+pub blocked-current : (b : Board) (i kind number : ℕ) → Here no-row (b .threads) (b .current) i
+    → with-threads (set (b .threads) i (with-state blocked (scheduler.wait kind number) (getD (b .threads) i no-row))) b
     ≡ scheduler.with-threads (alter (b .current) (become blocked (scheduler.wait kind number)) (b .threads)) (b .queue) b
-blocked-current b c kind number e = rw e
+blocked-current b i kind number h =
+    ap (λ (m : List (Row Thread)). scheduler.with-threads m (b .queue) b) (state-of (b .threads) (b .current) i h blocked (scheduler.wait kind number))

@@ -1,5 +1,5 @@
 -- How a call's reply is met by what its code leaves: refused with the area as it came, or answered with the new state. Assumes nothing.
-use mathlib.Core.Path.{_≡_, refl, sym, ap, _∙_, subst}
+use mathlib.Core.Path.{_≡_, sym, ap, _∙_}
 use mathlib.Core.Bool.{true}
 use mathlib.Core.List.{List}
 use Prim.Native.Nat.{ℕ}
@@ -7,9 +7,9 @@ use Rattle.carv_objects.specs.Answer.{refuse}
 use Rattle.carv_scheduler.specs.declared.Answer.{Answer}
 use Rattle.carv_scheduler.specs.declared.Answer.the-variants.{Refused}
 use Rattle.carv_scheduler.specs.Answer.{number, value}
-use Rattle.carv_scheduler.specs.Scheduler.{Board, Answers}
-use Rattle.carv_scheduler.specs.SoundFacts.{Sound}
-use Rattle.carv_scheduler.specs.Area.{decode, sound-area, Is, Serves}
+use Rattle.carv_board.specs.Scheduler.{Board, Answers}
+use Rattle.carv_board.specs.SoundFacts.{Sound}
+use Rattle.carv_scheduler.specs.Area.{decode, sound-area, Serves}
 use Rattle.carv_scheduler.specs.Formed.{Leaves, leaves-as}
 use Rattle.carv_scheduler.specs.AreaLaws.{is-area}
 

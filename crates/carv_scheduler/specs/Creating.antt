@@ -1,18 +1,19 @@
 -- `create_user_thread` with its register image: "An accepted creation fills the lent area". Assumes nothing.
-use mathlib.Core.Path.{_≡_, refl, sym, ap, _∙_}
-use mathlib.Core.Bool.{Bool, true, false, cond, false≢true, true≢false}
+use mathlib.Core.Path.{_≡_, refl, _∙_}
+use mathlib.Core.Bool.{Bool, true, false, cond}
 use mathlib.Core.List.{List}
 use Prim.Native.Nat.{ℕ}
 use lib.Dec.{eqb}
 use lib.ListN.{length}
-use borrow.Author.Tests.{eqb-true, eqb-false, eq-eqb}
+use borrow.Author.Tests.{eqb-true, eqb-false}
 use Rattle.carv_scheduler.specs.declared.Answer.{Answer}
 use Rattle.carv_scheduler.specs.declared.Answer.the-variants.{Done, Registry, NoSwitch, Switch, SwitchToKernel, Ended, EndedNothing, Blocked, NotBlocked, Record, Figure, Cause, NoCause, Refused}
-use Rattle.carv_scheduler.specs.Scheduler.{Board, Answers}
+use Rattle.carv_board.specs.Scheduler.{Board, Answers}
+use Rattle.carv_board.specs.Book.{Call}
 use Rattle.carv_scheduler.specs.Area.{Answered}
 use Rattle.carv_scheduler.specs.Image.{image-size, register-image}
 use Rattle.carv_scheduler.specs.Answer.{number}
-use Rattle.carv_scheduler.specs.C.{reported, Reports}
+use Rattle.carv_scheduler.specs.C.{reported, Reports, called}
 
 abbrev pub done : Answer → Bool
 done Done = true
@@ -56,6 +57,9 @@ module _ (call : Board → Answers) (a m : List ℕ) where
 pub record CreatesInC (call : Board → Answers) (a m out : List ℕ) (r : ℕ) (a′ m′ out′ : List ℕ) : Type 0 where
   pub size : eqb (length out) 20 ≡ false → (r ≡ 1) × (a′ ≡ a) × (m′ ≡ m) × (out′ ≡ out)
   pub reports : eqb (length out) 20 ≡ true → Reports (λ x b. Created call a m x b m′) out r a′ out′
+
+abbrev pub ExportedWithImage : Call → (a m out : List ℕ) (r : ℕ) (a′ m′ out′ : List ℕ) → Type 0
+ExportedWithImage c = CreatesInC (called c)
 
 module _ (call : Board → Answers) (a m out : List ℕ) where
   pub c-created-size : (length out ≡ 20 → ⊥) → CreatesInC call a m out 1 a m out

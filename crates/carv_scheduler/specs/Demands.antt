@@ -1,17 +1,16 @@
--- The three demands, over areas of bytes and the exported C functions: the file to open first. `Ensures` says of each call what the C function of that name ensures, in the
--- words of src/c.rt; a list of calls is run on an area from an accepted opening, each on the area that the last one left. Assumes nothing.
+-- The three demands, over areas of bytes and the exported C functions: the file to open first. `Ensures` says of each call what its C
+-- function in src/c.rt ensures; a list of calls is run on an area from an accepted opening, each on the area that the last one left. Assumes nothing.
 use mathlib.Core.Path.{_≡_, refl, sym, ap, _∙_, subst}
-use mathlib.Core.Bool.{Bool, true, false, cond, _&&_, false≢true, true≢false}
-use mathlib.Core.Option.{none, some}
+use mathlib.Core.Bool.{Bool, true, false, cond, _&&_, true≢false}
 use mathlib.Core.List.{List, [], _∷_, _++_, map}
-use Prim.Native.Nat.{ℕ, _^_, _≤_, _<_}
+use Prim.Native.Nat.{ℕ, _≤_}
 use native.Mathlib.Omega.{arith}
 use lib.Dec.{eqb, leb}
 use lib.ListN.{length}
 use borrow.Author.Tests.{leb-true}
 use Rattle.carv_area.specs.Table.{test}
 use Rattle.carv_budget.specs.Account.{period}
-use Rattle.carv_budget.specs.Laws.{first, second, both, not-first, not-second}
+use Rattle.carv_budget.specs.Laws.{first, second}
 use Rattle.carv_objects.specs.Registry as registry
 use Rattle.carv_objects.specs.Registry.{is-budget}
 use Rattle.carv_objects.specs.Book as objects
@@ -19,54 +18,24 @@ use Rattle.carv_objects.specs.Book.{is-live}
 use Rattle.carv_scheduler.specs.declared.Answer.{Answer}
 use Rattle.carv_scheduler.specs.declared.Answer.the-variants.{Refused}
 use Rattle.carv_scheduler.specs.Answer.{number, value}
-use Rattle.carv_scheduler.specs.Scheduler as scheduler
-use Rattle.carv_scheduler.specs.Scheduler.{Board, Answers, by-registry, opening}
-use Rattle.carv_scheduler.specs.Rust as rust
-use Rattle.carv_scheduler.specs.Refines as refines
-use Rattle.carv_scheduler.specs.SoundFacts.{Sound}
-use Rattle.carv_scheduler.specs.Area.{decode, sound-area, Is, Answered, Opened}
+use Rattle.carv_board.specs.Scheduler as scheduler
+use Rattle.carv_board.specs.Scheduler.{Board, Answers, by-registry, opening}
+use Rattle.carv_board.specs.Rust as rust
+use Rattle.carv_board.specs.Refines as refines
+use Rattle.carv_scheduler.specs.Area.{decode, sound-area, Is, Answered}
 use Rattle.carv_scheduler.specs.AreaLaws.{area-sound}
 use Rattle.carv_scheduler.specs.Image.{register-image}
-use Rattle.carv_scheduler.specs.C.{reported, Reports, Called, Opens}
-use Rattle.carv_scheduler.specs.Creating.{Created, CreatesInC}
-use Rattle.carv_scheduler.specs.Book as book
-use Rattle.carv_scheduler.specs.Book.{Book, Call, on-objects, create-user-thread, start, block-current, wake, is-blocked-on, kill, tick, plan, read-thread, read-current, read-switches, exit-of, write}
-use Rattle.carv_scheduler.specs.History.{run, after, Numbered, numbers, write-all, book-after, Fits, AllFit}
-use Rattle.carv_scheduler.specs.Demand2 as definitions
-use Rattle.carv_scheduler.specs.Demand2.{rust-run, is-added}
-use Rattle.carv_scheduler.specs.Demand3 as definitions-3
-use Rattle.carv_scheduler.specs.Demand3.{board-after, line-of, figures-of, Planned}
+use Rattle.carv_scheduler.specs.C.{registry-call, called, reported, Exported, Opens}
+use Rattle.carv_scheduler.specs.Creating.{ExportedWithImage}
+use Rattle.carv_board.specs.Book as book
+use Rattle.carv_board.specs.Book.{Book, Call, on-objects, create-user-thread, start, block-current, wake, is-blocked-on, kill, tick, plan, read-thread, read-current, read-switches, exit-of, write}
+use Rattle.carv_board.specs.History.{run, after, Numbered, numbers, write-all, book-after, Fits, AllFit}
+use Rattle.carv_board.specs.Demand2 as definitions
+use Rattle.carv_board.specs.Demand2.{rust-run, is-added}
+use Rattle.carv_board.specs.Demand3 as definitions-3
+use Rattle.carv_board.specs.Demand3.{board-after, line-of, figures-of, Planned}
 
 -- The exported functions.
-
--- what each call does to a board, as the C functions' `ensures` name it
-abbrev pub registry-call : objects.Call → Board → Answers
-registry-call (objects.create kind payer backing) = by-registry (registry.create kind payer backing)
-registry-call (objects.insert kind payer bytes) = by-registry (registry.insert kind payer bytes)
-registry-call (objects.create-budget parent cpu memory time) = by-registry (registry.create-budget parent cpu memory time)
-registry-call (objects.charge-more i bytes) = by-registry (registry.charge-more i bytes)
-registry-call (objects.uncharge i bytes) = by-registry (registry.uncharge i bytes)
-registry-call (objects.remove i) = by-registry (registry.remove i)
-registry-call (objects.refill i time) = by-registry (registry.refill i time)
-registry-call (objects.charge-cpu i ns time) = by-registry (registry.charge-cpu i ns time)
-registry-call (objects.pays-for-anything i) = by-registry (registry.pays-for-anything i)
-registry-call (objects.read-account i) = by-registry (registry.read-account i)
-registry-call (objects.charge-of i) = by-registry (registry.charge-of i)
-
-abbrev pub called : Call → Board → Answers
-called (on-objects c) = registry-call c
-called (create-user-thread i budget stack) = scheduler.create-user-thread i budget stack
-called (start i space cspace root context) = scheduler.start i space cspace root context
-called (block-current kind number) = scheduler.block-current kind number
-called (wake i r) = scheduler.wake i r
-called (is-blocked-on i kind number) = scheduler.is-blocked-on i kind number
-called (kill i cause) = scheduler.kill i cause
-called (tick n) = scheduler.tick n
-called (plan n) = scheduler.plan n
-called (read-thread i) = scheduler.read-thread i
-called read-current = scheduler.read-current
-called read-switches = scheduler.read-switches
-called (exit-of i) = scheduler.exit-of i
 
 -- only `carv_create_user_thread` is lent a register image
 abbrev pub has-image : Call → Bool
@@ -94,10 +63,10 @@ pub record Made : Type 0 where
   pub words′ : List ℕ
   pub image′ : List ℕ
 
--- what the C function of the call ensures, on the area a
+-- what the C function of the call ensures, on the area a: the `ensures` of src/c.rt name these two
 pub data Ensures (a : List ℕ) (e : Made) : Type 0 where
-  with-image : has-image (e .call) ≡ true → CreatesInC (called (e .call)) a (e .image) (e .words) (e .returned) (e .left) (e .image′) (e .words′) → Ensures a e
-  plain : has-image (e .call) ≡ false → Called (called (e .call)) a (e .words) (e .returned) (e .left) (e .words′) → e .image′ ≡ e .image → Ensures a e
+  with-image : has-image (e .call) ≡ true → ExportedWithImage (e .call) a (e .image) (e .words) (e .returned) (e .left) (e .image′) (e .words′) → Ensures a e
+  plain : has-image (e .call) ≡ false → Exported (e .call) a (e .words) (e .returned) (e .left) (e .words′) → e .image′ ≡ e .image → Ensures a e
 
 -- a list of calls run on the area a, each on what the last one left; and the last area
 abbrev pub Ran : List Made → List ℕ → Type 0
@@ -256,7 +225,7 @@ module _ (a : List ℕ) (e : Made) (x : Answer) (h : Answered (called (e .call))
       (n ∙ ap number q, u, w ∙ ap (λ (y : Answer). reported y (e .words)) q)
 
 -- demand 1 of a call with an image, and of one without
-with-image-1 : (a : List ℕ) (e : Made) → has-image (e .call) ≡ true → CreatesInC (called (e .call)) a (e .image) (e .words) (e .returned) (e .left) (e .image′) (e .words′) → Demand1 a e
+with-image-1 : (a : List ℕ) (e : Made) → has-image (e .call) ≡ true → ExportedWithImage (e .call) a (e .image) (e .words) (e .returned) (e .left) (e .image′) (e .words′) → Demand1 a e
 with-image-1 a e c h =
     let is-lent : lent e ≡ (eqb (length (e .words)) 20 && eqb (length (e .image)) 512) = rw c in
     record {
@@ -283,7 +252,7 @@ with-image-1 a e c h =
     parts : (eqb (length (e .words)) 20 && eqb (length (e .image)) 512) ≡ true → (eqb (length (e .words)) 20 ≡ true) × (eqb (length (e .image)) 512 ≡ true)
     parts y = (first (eqb (length (e .words)) 20) (eqb (length (e .image)) 512) y, second (eqb (length (e .words)) 20) (eqb (length (e .image)) 512) y)
 
-plain-1 : (a : List ℕ) (e : Made) → has-image (e .call) ≡ false → Called (called (e .call)) a (e .words) (e .returned) (e .left) (e .words′) → e .image′ ≡ e .image → Demand1 a e
+plain-1 : (a : List ℕ) (e : Made) → has-image (e .call) ≡ false → Exported (e .call) a (e .words) (e .returned) (e .left) (e .words′) → e .image′ ≡ e .image → Demand1 a e
 plain-1 a e c h m = record {
   lengths = λ n. (let (q, u, w) = h .size (not-lent n) in record { number = q; area = u; words = w; image = m });
   damaged = λ y s.

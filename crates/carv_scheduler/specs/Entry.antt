@@ -10,7 +10,7 @@ use Rattle.carv_objects.specs.Answer as registry-answer
 use Rattle.carv_scheduler.specs.declared.Answer.{Answer}
 use Rattle.carv_scheduler.specs.declared.Answer.the-variants.{Refused}
 use Rattle.carv_scheduler.specs.Answer.{number}
-use Rattle.carv_scheduler.specs.Scheduler.{Board, Answers}
+use Rattle.carv_board.specs.Scheduler.{Board, Answers}
 use Rattle.carv_scheduler.specs.Area.{sound-area, Serves, Answered}
 use Rattle.carv_scheduler.specs.C.{registry-reported, reported, Returns}
 

@@ -7,10 +7,10 @@ use Prim.Native.Nat.{ℕ, suc, _<_}
 use lib.Dec.{T, eqb}
 use lib.ListN.{length, getD, drop}
 use lib.Seq.{drop-cons, drop-length}
-use Rattle.carv_scheduler.specs.declared.Exit.{Exit}
+use Rattle.carv_board.specs.declared.Exit.{Exit}
 use Rattle.carv_scheduler.specs.declared.exits.Cause.{Cause}
 use Rattle.carv_scheduler.specs.declared.exits.Cause.the-variants.{Logged, Nothing}
-use Rattle.carv_scheduler.specs.Scheduler.{exit-in}
+use Rattle.carv_board.specs.Scheduler.{exit-in}
 use Rattle.carv_scheduler.specs.Rows.{no-exit}
 
 abbrev pub cause-of : Cause → Option ℕ

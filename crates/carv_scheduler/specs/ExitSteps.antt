@@ -16,9 +16,9 @@ use Rattle.carv_area.specs.Parts.{part, putPart, length-part}
 use Rattle.carv_area.specs.Moves.{cutRow}
 use Rattle.carv_area.specs.Rows.{removeAt}
 use Rattle.carv_area.specs.Stored.{Stored, stored-room, stored-remove, stored-append}
-use Rattle.carv_scheduler.specs.declared.Exit.{Exit}
+use Rattle.carv_board.specs.declared.Exit.{Exit}
 use Rattle.carv_scheduler.specs.declared.Answer.the-variants.{Cause, NoCause}
-use Rattle.carv_scheduler.specs.Scheduler.{Board, exit-cause, logged, exit-in, exit-of}
+use Rattle.carv_board.specs.Scheduler.{Board, exit-cause, logged, exit-in, exit-of}
 use Rattle.carv_scheduler.specs.Area.{exits-part, exit-fields, exit-at, exits-in, decode, sound-area, Serves}
 use Rattle.carv_scheduler.specs.Rows.{no-exit, wide-exit, exit-at-is}
 use Rattle.carv_scheduler.specs.Formed.{WellFormed, Leaves, leaves-as, unchanged, exits-written}

@@ -7,13 +7,13 @@ use mathlib.Core.List.{List}
 use lib.ListN.{length, getD}
 use Rattle.carv_area.specs.Table.{Row, Rising}
 use Rattle.carv_area.specs.Words.{words}
-use Rattle.carv_area.specs.Parts.{part, putPart, length-part, length-put, part-same, part-before, part-after}
+use Rattle.carv_area.specs.Parts.{part, putPart, length-put, part-same, part-before, part-after}
 use Rattle.carv_area.specs.Stored.{Stored, Queue, queue-is}
 use Rattle.carv_objects.specs.Registry.{Registry}
 use Rattle.carv_objects.specs.Area as objects
-use Rattle.carv_scheduler.specs.declared.Thread.{Thread}
-use Rattle.carv_scheduler.specs.declared.Exit.{Exit}
-use Rattle.carv_scheduler.specs.Scheduler.{Board}
+use Rattle.carv_board.specs.declared.Thread.{Thread}
+use Rattle.carv_board.specs.declared.Exit.{Exit}
+use Rattle.carv_board.specs.Scheduler.{Board}
 use Rattle.carv_scheduler.specs.Area.{registry-part, head, threads-part, queue-part, exits-part, thread-fields, exit-fields, decode}
 use Rattle.carv_scheduler.specs.Rows.{threads-in-are, exits-in-are}
 

@@ -4,34 +4,36 @@ use mathlib.Core.Bool.{Bool, true, false, cond}
 use mathlib.Core.Logic.{⊎-elim}
 use mathlib.Core.Option.{some}
 use mathlib.Core.List.{List, [], _∷_}
-use Prim.Native.Nat.{ℕ, zero, _+_, _≤_, _<_}
+use Prim.Native.Nat.{ℕ, zero, _+_, _<_}
 use native.Mathlib.Omega.{arith}
 use lib.Dec.{eqb}
 use lib.ListN.{length, getD, set}
-use borrow.Author.Tests.{eqb-true, eq-eqb, ne-eqb, le-leb, lt-leb}
+use borrow.Author.Tests.{eqb-true, eq-eqb, ne-eqb}
 use Rattle.carv_area.specs.Table.{Row, alter, erase, test}
 use Rattle.carv_area.specs.Lists.{lt-or-ge}
 use Rattle.carv_area.specs.Rows.{removeAt}
 use Rattle.carv_area.specs.Keys.{findIn, after}
-use Rattle.carv_area.specs.Lookup.{Here, Located}
+use Rattle.carv_area.specs.Lookup.{Here}
 use Rattle.carv_area.specs.declared.Found.{Found}
 use Rattle.carv_area.specs.declared.Found.the-variants.{At, Nothing}
 use Rattle.carv_objects.specs.Answer.{refuse, accept}
-use Rattle.carv_scheduler.specs.declared.Thread.{Thread}
+use Rattle.carv_board.specs.declared.Thread.{Thread}
 use Rattle.carv_scheduler.specs.declared.Answer.{Answer}
 use Rattle.carv_scheduler.specs.declared.Answer.the-variants.{Ended, EndedNothing, Refused}
 use Rattle.carv_scheduler.specs.Answer.{number, value}
-use Rattle.carv_scheduler.specs.Scheduler.{Board, idle, blocked, dead, is, cause-listed, no-wait, wait-of, ended, or-fresh, found, thread, has, become, without, logged, kill}
-use Rattle.carv_scheduler.specs.Sound.{distinct}
-use Rattle.carv_scheduler.specs.Reading.{and-false, distinct-first, distinct-rest, without-absent}
+use Rattle.carv_board.specs.Scheduler.{Board, idle, blocked, dead, is, cause-listed, no-wait, wait-of, ended, thread, has, become, without, logged, kill}
+use Rattle.carv_board.specs.Sound.{distinct}
+use Rattle.carv_board.specs.Reading.{distinct-first, distinct-rest, without-absent}
 use Rattle.carv_scheduler.specs.Area.{decode, sound-area, Serves}
 use Rattle.carv_scheduler.specs.AreaLaws.{area-sound}
-use Rattle.carv_scheduler.specs.Rows.{row, no-row}
+use Rattle.carv_scheduler.specs.Rows.{no-row}
+use Rattle.carv_scheduler.specs.RowWords.{with-state, state-of}
+use Rattle.carv_scheduler.specs.Places.{here-has, here-thread}
 use Rattle.carv_scheduler.specs.Formed.{WellFormed, Leaves, leaves-as, unchanged}
 use Rattle.carv_scheduler.specs.AreaSteps.{with-threads, with-queue}
 use Rattle.carv_scheduler.specs.ExitSteps.{exit, with-exits}
 use Rattle.carv_scheduler.specs.Calls.{refused, answered}
-use Rattle.carv_scheduler.specs.Kept.{kill-kept}
+use Rattle.carv_board.specs.Kept.{kill-kept}
 
 -- the threads after the end of thread i
 abbrev pub killed : ℕ → Board → List (Row Thread)
@@ -40,17 +42,6 @@ killed i b = cond (eqb i (b .current)) (alter i (become dead no-wait) (b .thread
 -- what a kill answers of a thread as it was
 abbrev pub wait-answer : Thread → Answer
 wait-answer t = cond (is blocked t) (Ended (t .wait)) EndedNothing
-
--- the test of a cause
-module _ (c : ℕ) where
-  pub cause-low : c < 1 → false ≡ cause-listed c
-  cause-low h = rw (lt-leb 1 c h)
-
-  pub cause-high : 2 < c → false ≡ cause-listed c
-  cause-high h = rw (lt-leb c 2 h, and-false)
-
-  pub cause-there : 1 ≤ c → c ≤ 2 → true ≡ cause-listed c
-  cause-there h k = rw (le-leb 1 c h, le-leb c 2 k)
 
 -- Leaving the queue.
 
@@ -92,11 +83,11 @@ module _ (a : List ℕ) (x : ℕ) where
 
 -- The thread's end, by its place.
 module _ (a : List ℕ) (x i : ℕ) (h : Here no-row (decode a .threads) x i) (c : ℕ) (e : c ≡ decode a .current) where
-  pub killed-current : x ≡ c → (t : Thread) → t ≡ getD (decode a .threads) i no-row .it → (a′ : List ℕ)
-      → Leaves a′ (with-threads (set (decode a .threads) i (row x (become dead no-wait t))) (decode a)) → Leaves a′ (with-threads (killed x (decode a)) (decode a))
-  killed-current q t same a′ l = leaves-as a′ _ _
+  pub killed-current : x ≡ c → (a′ : List ℕ)
+      → Leaves a′ (with-threads (set (decode a .threads) i (with-state dead no-wait (getD (decode a .threads) i no-row))) (decode a)) → Leaves a′ (with-threads (killed x (decode a)) (decode a))
+  killed-current q a′ l = leaves-as a′ _ _
       (ap (λ (m : List (Row Thread)). with-threads m (decode a))
-      (ap (λ (u : Thread). set (decode a .threads) i (row x (become dead no-wait u))) same ∙ sym (h .changed (become dead no-wait)) ∙ sym (picked (eqb x (decode a .current)) (eq-eqb x (decode a .current) (q ∙ e))))) l
+      (state-of (decode a .threads) x i h dead no-wait ∙ sym (picked (eqb x (decode a .current)) (eq-eqb x (decode a .current) (q ∙ e))))) l
     where
       picked : (b : Bool) → b ≡ true → cond b (alter x (become dead no-wait) (decode a .threads)) (erase x (decode a .threads)) ≡ alter x (become dead no-wait) (decode a .threads)
       picked b z = rw z
@@ -144,14 +135,6 @@ module _ (x cause : ℕ) (b : Board) where
     }) b
     kill-done h = rw (c, ne-eqb x idle n, h)
 
--- what was found says whether the thread is there
-module _ (m : List (Row Thread)) (x : ℕ) (p : Found) (l : Located no-row m x p) where
-  pub found-here : (i : ℕ) → p ≡ At i → Here no-row m x i
-  found-here i e = subst (Located no-row m x) e l
-
-  pub found-gone : p ≡ Nothing → has m x ≡ false
-  found-gone e = ap found (subst (Located no-row m x) e l .is)
-
 module _ (a : List ℕ) (s : sound-area a ≡ true) (x cause : ℕ) where
   pub kill-4 : cause-listed cause ≡ false → Serves (kill x cause) a (Refused 4) a
   kill-4 c = refused (kill x cause) a s 4 (kill-unlisted x cause (decode a) c)
@@ -173,9 +156,9 @@ module _ (a : List ℕ) (s : sound-area a ≡ true) (x cause : ℕ) where
             → (a₃ : List ℕ) → Leaves a₃ (with-exits (logged (exit x cause) (decode a₂ .exits)) (decode a₂))
             → (r : Answer) → r ≡ wait-answer t → Serves (kill x cause) a r a₃
         kill-served i h t same a₂ l₂ a₃ l₃ r e =
-            let o : thread (decode a .threads) x ≡ t = ap or-fresh (h .is) ∙ sym same in
+            let o : thread (decode a .threads) x ≡ t = here-thread (decode a .threads) x i h ∙ sym same in
             let e₂ = l₂ .is ∙ ap (λ (b : Board). with-queue (without x (b .queue)) b) (l₁ .is) in
-            answered (kill x cause) a s _ (kill-done x cause (decode a) c n (ap found (h .is))) r
+            answered (kill x cause) a s _ (kill-done x cause (decode a) c n (here-has (decode a .threads) x i h)) r
             (ap number e ∙ answer-number t) (ap value e ∙ answer-value t ∙ ap (λ (u : Thread). some (ended (wait-of u))) (sym o))
             a₃ (leaves-as a₃ _ _ (ap (λ (b : Board). with-exits (logged (exit x cause) (b .exits)) b) e₂) l₃)
             (kill-kept x cause (decode a) (area-sound a s))

@@ -1,20 +1,5 @@
--- The root of the crate's definitions. What a reader must believe: Scheduler, Answer, Sound, Area, C, Creating, Image, ExitRun, Rust, Book. The others are theorems on these.
-pub mod Scheduler
+-- The root of the crate's definitions. What a reader must believe, beside carv_board's: Answer, Area, C, Creating, Image, ExitRun. The others are theorems on these.
 pub mod Answer
-pub mod Rust
-pub mod Sound
-pub mod SoundFacts
-pub mod Reading
-pub mod SoundLaws
-pub mod Steps
-pub mod Switching
-pub mod Kept
-pub mod Refines
-pub mod Book
-pub mod History
-pub mod Demand2
-pub mod Demand3
-pub mod Edges
 pub mod Area
 pub mod Rows
 pub mod Formed
@@ -24,15 +9,15 @@ pub mod AreaLaws
 pub mod AreaExact
 pub mod Calls
 pub mod Questions
+pub mod RowWords
+pub mod Places
 pub mod CallSteps
 pub mod OnRegistry
 pub mod C
 pub mod Entry
 pub mod Opening
-pub mod RowWords
 pub mod Waking
 pub mod Ticking
-pub mod State
 pub mod Walk
 pub mod Planning
 pub mod PlanSteps

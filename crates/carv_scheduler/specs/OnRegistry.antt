@@ -1,24 +1,22 @@
 -- A call of the registry on the board's area: what it answers and leaves, from what it promises of the registry's part. Assumes nothing.
-use mathlib.Core.Path.{_≡_, refl, sym, ap, _∙_, subst}
+use mathlib.Core.Path.{_≡_, ap, subst}
 use mathlib.Core.Bool.{true}
 use mathlib.Core.List.{List}
-use mathlib.Core.Option.{Option}
 use Prim.Native.Nat.{ℕ, _≤_}
 use native.Mathlib.Omega.{arith}
 use lib.ListN.{length}
 use Rattle.carv_area.specs.Parts.{part, putPart}
 use Rattle.carv_objects.specs.declared.Answer.{Answer}
 use Rattle.carv_objects.specs.Answer.{number, value}
-use Rattle.carv_objects.specs.Answer as objects
 use Rattle.carv_objects.specs.Registry.{Registry}
 use Rattle.carv_objects.specs.Registry as registry
 use Rattle.carv_objects.specs.SoundFacts as registry-facts
 use Rattle.carv_objects.specs.Area as registry-area
 use Rattle.carv_objects.specs.Calls as registry-calls
 use Rattle.carv_scheduler.specs.declared.Answer.the-variants as answer
-use Rattle.carv_scheduler.specs.Scheduler.{Board, with-registry, by-registry, lift-value}
-use Rattle.carv_scheduler.specs.SoundFacts.{Sound}
-use Rattle.carv_scheduler.specs.Steps.{registry-kept}
+use Rattle.carv_board.specs.Scheduler.{with-registry, by-registry, lift-value}
+use Rattle.carv_board.specs.SoundFacts.{Sound}
+use Rattle.carv_board.specs.Steps.{registry-kept}
 use Rattle.carv_scheduler.specs.Area.{registry-part, decode, sound-area, Is, Serves}
 use Rattle.carv_scheduler.specs.Formed.{registry-written}
 use Rattle.carv_scheduler.specs.AreaLaws.{area-sound, area-formed, asked-told, is-area}

@@ -1,33 +1,30 @@
 -- What an opening leaves: the registry's opening, the other parts cleared, and two threads. Assumes nothing.
-use mathlib.Core.Path.{_≡_, refl, sym, ap, _∙_, subst}
-use mathlib.Core.Bool.{true, false, true≢false, false≢true}
-use mathlib.Core.List.{List, [], _∷_, _++_, append-nil}
-use mathlib.Core.Option.{none}
-use mathlib.Core.Logic.{_⊎_, inl, inr}
-use Prim.Native.Nat.{ℕ, suc, _+_, _*_, _-_, _/_, _^_, _≤_, _<_}
+use mathlib.Core.Path.{_≡_, refl, sym, ap, _∙_}
+use mathlib.Core.Bool.{true≢false}
+use mathlib.Core.List.{List, [], append-nil}
+use Prim.Native.Nat.{ℕ, suc, _+_, _-_, _/_, _≤_, _<_}
 use native.Mathlib.Omega.{arith}
-use lib.Dec.{eqb, leb}
 use lib.ListN.{length, getD, take, drop, drop-of-length-le, length-replicate}
 use lib.Seq.{take-all}
-use borrow.Author.Tests.{eqb-true, eqb-false, eq-eqb, leb-true, le-leb, lt-leb}
-use Rattle.carv_area.specs.Table.{Row, put}
+use borrow.Author.Tests.{eqb-true, eqb-false, eq-eqb, le-leb, lt-leb}
+use Rattle.carv_area.specs.Table.{put}
 use Rattle.carv_area.specs.Words.{words}
 use Rattle.carv_area.specs.WordLaws.{length-words}
 use Rattle.carv_area.specs.Moves.{zeros, wipe}
 use Rattle.carv_area.specs.Parts.{part, putPart, length-part, length-put, part-same, part-before, part-after}
 use Rattle.carv_area.specs.Rows.{Holds, flat, hold}
-use Rattle.carv_area.specs.Stored.{Stored, stored, Queue, one, wide-one}
+use Rattle.carv_area.specs.Stored.{stored, one, wide-one}
 use Rattle.carv_budget.specs.Account.{period}
 use Rattle.carv_objects.specs.declared.Answer as registry-answer
 use Rattle.carv_objects.specs.Registry as registry
 use Rattle.carv_objects.specs.Area as registry-area
 use Rattle.carv_scheduler.specs.declared.Answer.the-variants.{Done, Refused}
-use Rattle.carv_scheduler.specs.declared.Thread.{Thread}
-use Rattle.carv_scheduler.specs.Scheduler.{Board, idle, ready, running, no-payer, fresh, opening}
-use Rattle.carv_scheduler.specs.Kept.{opening-sound}
-use Rattle.carv_scheduler.specs.Area.{registry-part, head, threads-part, queue-part, exits-part, thread-fields, exit-fields, decode, Opened}
+use Rattle.carv_board.specs.declared.Thread.{Thread}
+use Rattle.carv_board.specs.Scheduler.{Board, idle, ready, running, no-payer, fresh, opening}
+use Rattle.carv_board.specs.Kept.{opening-sound}
+use Rattle.carv_scheduler.specs.Area.{registry-part, head, threads-part, queue-part, exits-part, thread-fields, exit-fields, Opened}
 use Rattle.carv_scheduler.specs.Rows.{wide, wide-exit}
-use Rattle.carv_scheduler.specs.Formed.{Formed, WellFormed, Leaves, leaves}
+use Rattle.carv_scheduler.specs.Formed.{Leaves, leaves}
 use Rattle.carv_scheduler.specs.AreaSteps.{with-threads, New}
 use Rattle.carv_scheduler.specs.AreaLaws.{is-area}
 

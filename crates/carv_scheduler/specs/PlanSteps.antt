@@ -2,33 +2,35 @@
 use Prim.Native.Nat.{ℕ, _+_, _*_, _^_, _%_, _≤_, _<_}
 use native.Mathlib.Omega.{arith}
 use mathlib.Core.Path.{_≡_, refl, sym, ap, _∙_, subst}
-use mathlib.Core.Bool.{Bool, true, false, cond, not, _&&_}
+use mathlib.Core.Bool.{Bool, true, false, cond, not}
 use mathlib.Core.Option.{Option, none, some}
 use mathlib.Core.List.{List, [], _∷_, _++_}
 use lib.Dec.{eqb}
 use lib.ListN.{length, getD, set}
 use borrow.Author.Tests.{eq-eqb, ne-eqb, le-leb, lt-leb, not-true, not-false}
-use Rattle.carv_area.specs.Table.{Row, alter, erase, test}
+use Rattle.carv_area.specs.Table.{Row, alter, erase}
 use Rattle.carv_area.specs.Rows.{removeAt}
 use Rattle.carv_area.specs.Lookup.{Located, Here, Gone}
 use Rattle.carv_objects.specs.Answer.{refuse, accept}
-use Rattle.carv_scheduler.specs.declared.Thread.{Thread}
+use Rattle.carv_board.specs.declared.Thread.{Thread}
 use Rattle.carv_scheduler.specs.declared.Answer.{Answer}
 use Rattle.carv_scheduler.specs.declared.Answer.the-variants.{NoSwitch, Switch, SwitchToKernel, Refused}
 use Rattle.carv_scheduler.specs.declared.planning.Chosen.{Chosen}
 use Rattle.carv_scheduler.specs.Answer.{number, value}
-use Rattle.carv_scheduler.specs.Scheduler.{Board, Choice, switch, idle, tick-ns, ready, running, dead, is, no-wait, thread, become, root-of, put-back, switch-to, switch-value, plan}
+use Rattle.carv_board.specs.Scheduler.{Board, Choice, switch, idle, tick-ns, ready, running, dead, is, no-wait, thread, become, root-of, put-back, switch-to, switch-value, plan}
 use Rattle.carv_scheduler.specs.Area.{decode, sound-area, Serves}
 use Rattle.carv_scheduler.specs.Rows.{no-row}
 use Rattle.carv_scheduler.specs.Formed.{WellFormed, Leaves, leaves-as, unchanged}
 use Rattle.carv_scheduler.specs.AreaSteps.{with-threads, with-head, with-queue}
 use Rattle.carv_scheduler.specs.AreaLaws.{area-sound, area-formed}
 use Rattle.carv_scheduler.specs.Calls.{refused, answered}
-use Rattle.carv_scheduler.specs.Kept.{plan-kept}
-use Rattle.carv_scheduler.specs.Reading.{and-false, thread-alter}
+use Rattle.carv_board.specs.Kept.{plan-kept}
+use Rattle.carv_board.specs.Switching.{put-back-current}
+use Rattle.carv_board.specs.Reading.{and-false, thread-alter}
 use Rattle.carv_scheduler.specs.Room.{queue-room}
-use Rattle.carv_scheduler.specs.State.{with-state, state-of}
-use Rattle.carv_scheduler.specs.Planning.{Backs, Chooses, Values, Runs, Leaving, Switches, choice, choice-of, taken, thread-here, has-here, thread-gone}
+use Rattle.carv_scheduler.specs.RowWords.{with-state, state-of}
+use Rattle.carv_scheduler.specs.Places.{here-has, here-thread, gone-thread}
+use Rattle.carv_scheduler.specs.Planning.{Backs, Chooses, Values, Runs, Leaving, Switches, choice, choice-of, taken}
 
 -- Putting back: a board whose current thread, x, stays, and one whose current thread goes to the queue.
 
@@ -52,12 +54,12 @@ module _ (a : List ℕ) (s : sound-area a ≡ true) (x : ℕ) (ex : x ≡ decode
 
   pub backs-gone : Gone (decode a .threads) x → Backs x a false a
   backs-gone g =
-      let t = thread-gone (decode a .threads) x g in
+      let t = gone-thread (decode a .threads) x g in
       left-so (back-stays (decode a) x ex (ap (is running) t)) false (sym (ap (is dead) t))
 
   module _ (i : ℕ) (h : Here no-row (decode a .threads) x i) (y : ℕ) (ey : y ≡ getD (decode a .threads) i no-row .it .state) where
     state-here : y ≡ thread (decode a .threads) x .state
-    state-here = ey ∙ sym (ap (λ (t : Thread). t .state) (thread-here (decode a .threads) x i h))
+    state-here = ey ∙ sym (ap (λ (t : Thread). t .state) (here-thread (decode a .threads) x i h))
 
     state-is : (n : ℕ) → eqb y n ≡ is n (thread (decode a .threads) x)
     state-is n = ap (λ (z : ℕ). eqb z n) state-here
@@ -69,10 +71,10 @@ module _ (a : List ℕ) (s : sound-area a ≡ true) (x : ℕ) (ex : x ≡ decode
       pub backs-idle : x ≡ idle → Backs x a false a
       backs-idle e = left-so (back-idle (decode a) x ex e) false (sym (sym (state-is 5) ∙ ap (λ (z : ℕ). eqb z 5) run))
 
-      module _ (n : x ≡ idle → ⊥) (a₁ : List ℕ) (l : Leaves a₁ (with-threads (set (decode a .threads) i (with-state 2 (getD (decode a .threads) i no-row))) (decode a))) where
+      module _ (n : x ≡ idle → ⊥) (a₁ : List ℕ) (l : Leaves a₁ (with-threads (set (decode a .threads) i (with-state 2 no-wait (getD (decode a .threads) i no-row))) (decode a))) where
         pub backs-room : length (decode a₁ .queue) < 127
         backs-room =
-            let q = queue-room (decode a) (area-sound a s) x (has-here (decode a .threads) x i h) (sym (state-is 2) ∙ ap (λ (z : ℕ). eqb z 2) run) (ne-eqb x idle n) in
+            let q = queue-room (decode a) (area-sound a s) x (here-has (decode a .threads) x i h) (sym (state-is 2) ∙ ap (λ (z : ℕ). eqb z 2) run) (ne-eqb x idle n) in
             let e = ap (λ (b : Board). length (b .queue)) (l .is) in
             omega arith
 
@@ -81,10 +83,10 @@ module _ (a : List ℕ) (s : sound-area a ≡ true) (x : ℕ) (ex : x ≡ decode
             let e = back-goes (decode a) x ex n (sym (state-is 3) ∙ ap (λ (z : ℕ). eqb z 3) run) in
             let m = decode a .threads in
             let t : thread (alter x (become ready no-wait) m) x ≡ become ready no-wait (thread m x) =
-            thread-alter m x (become ready no-wait) (has-here m x i h) x ∙ ap (λ (z : Bool). cond z (become ready no-wait (thread m x)) (thread m x)) (eq-eqb x x refl) in (
+            thread-alter m x (become ready no-wait) (here-has m x i h) x ∙ ap (λ (z : Bool). cond z (become ready no-wait (thread m x)) (thread m x)) (eq-eqb x x refl) in (
               sym (ap (λ (b : Board). is dead (thread (b .threads) x)) e ∙ ap (is dead) t),
               leaves-as a₂ _ _ (ap (λ (b : Board). with-queue (b .queue ++ (x ∷ [])) b) (l .is)
-                  ∙ ap (λ (z : List (Row Thread)). with-queue (decode a .queue ++ (x ∷ [])) (with-threads z (decode a))) (state-of m x i h 2) ∙ sym e) k,
+                  ∙ ap (λ (z : List (Row Thread)). with-queue (decode a .queue ++ (x ∷ [])) (with-threads z (decode a))) (state-of m x i h 2 no-wait) ∙ sym e) k,
             )
 
 -- The answer.
@@ -97,25 +99,25 @@ module _ (old x : ℕ) (b : Board) where
     switched r e = rw (ne-eqb x old n, e)
 
     pub says-gone : Gone (b .threads) x → Values old x b (SwitchToKernel old x)
-    says-gone g = record { number = refl; value = sym (switched none (ap root-of (thread-gone (b .threads) x g))) }
+    says-gone g = record { number = refl; value = sym (switched none (ap root-of (gone-thread (b .threads) x g))) }
 
     module _ (i : ℕ) (h : Here no-row (b .threads) x i) (y : ℕ) (ey : y ≡ getD (b .threads) i no-row .it .place .is) where
       pub says-kernel : y ≡ 0 → Values old x b (SwitchToKernel old x)
       says-kernel z = record {
         number = refl;
-        value = sym (switched none (ap root-of (thread-here (b .threads) x i h) ∙ rw (eq-eqb (getD (b .threads) i no-row .it .place .is) 0 (sym ey ∙ z))));
+        value = sym (switched none (ap root-of (here-thread (b .threads) x i h) ∙ rw (eq-eqb (getD (b .threads) i no-row .it .place .is) 0 (sym ey ∙ z))));
       }
 
       pub says-root : (y ≡ 0 → ⊥) → (r : ℕ) → r ≡ getD (b .threads) i no-row .it .place .root → Values old x b (Switch old x r)
       says-root z r er = record {
         number = refl;
-        value = sym (switched (some r) (ap root-of (thread-here (b .threads) x i h) ∙ rw (ne-eqb (getD (b .threads) i no-row .it .place .is) 0 (λ q. z (ey ∙ q)), er)));
+        value = sym (switched (some r) (ap root-of (here-thread (b .threads) x i h) ∙ rw (ne-eqb (getD (b .threads) i no-row .it .place .is) 0 (λ q. z (ey ∙ q)), er)));
       }
 
 -- The chosen thread runs.
 pub runs-at : (a : List ℕ) (x i : ℕ) → Here no-row (decode a .threads) x i → (a′ : List ℕ)
-    → Leaves a′ (with-threads (set (decode a .threads) i (with-state 3 (getD (decode a .threads) i no-row))) (decode a)) → Runs x a a′
-runs-at a x i h a′ l = leaves-as a′ _ _ (ap (λ (m : List (Row Thread)). with-threads m (decode a)) (state-of (decode a .threads) x i h 3)) l
+    → Leaves a′ (with-threads (set (decode a .threads) i (with-state 3 no-wait (getD (decode a .threads) i no-row))) (decode a)) → Runs x a a′
+runs-at a x i h a′ l = leaves-as a′ _ _ (ap (λ (m : List (Row Thread)). with-threads m (decode a)) (state-of (decode a .threads) x i h 3 no-wait)) l
 
 pub runs-gone : (a : List ℕ) → WellFormed a → (x : ℕ) → Gone (decode a .threads) x → Runs x a a
 runs-gone a k x g = leaves-as a _ _ (sym (ap (λ (m : List (Row Thread)). with-threads m (decode a)) (g .changed (become running no-wait)))) (unchanged a k)
@@ -171,9 +173,6 @@ module _ (a : List ℕ) (x old : ℕ) (eo : old ≡ decode a .current) (r : Answ
   }
 
 -- The plan.
-put-back-current : (b : Board) → put-back b .current ≡ b .current
-put-back-current b = test (not (eqb (b .current) idle) && is running (thread (b .threads) (b .current))) (λ e. rw e) (λ e. rw e)
-
 module _ (n : ℕ) (b : Board) where
   plan-late : 18_446_744_073_709 < n → plan n b ≡ refuse 3 b
   plan-late h = rw (lt-leb n 18_446_744_073_709 h)

@@ -10,26 +10,27 @@ use lib.Dec.{ltb}
 use borrow.Author.Tests.{eq-eqb, ne-eqb, lt-ltb, le-ltb}
 use Rattle.carv_area.specs.Table.{Row, at, alter, erase}
 use Rattle.carv_area.specs.Rows.{removeAt}
-use Rattle.carv_area.specs.Parts.{part, putPart, length-part}
+use Rattle.carv_area.specs.Parts.{putPart}
 use Rattle.carv_area.specs.Lookup.{Located, Here, Gone}
 use Rattle.carv_area.specs.declared.Found.{Found}
 use Rattle.carv_area.specs.declared.Found.the-variants.{At, Nothing}
 use Rattle.carv_objects.specs.Registry as registry
 use Rattle.carv_objects.specs.Registry.{Registry, has-cpu}
 use Rattle.carv_objects.specs.Area as objects
-use Rattle.carv_scheduler.specs.declared.Thread.{Thread}
-use Rattle.carv_scheduler.specs.declared.Payer.{Payer}
+use Rattle.carv_board.specs.declared.Thread.{Thread}
+use Rattle.carv_board.specs.declared.Payer.{Payer}
 use Rattle.carv_scheduler.specs.declared.Answer.{Answer}
 use Rattle.carv_scheduler.specs.declared.planning.Next.{Next}
 use Rattle.carv_scheduler.specs.declared.planning.Next.the-variants as next
 use Rattle.carv_scheduler.specs.declared.planning.Chosen.{Chosen}
 use Rattle.carv_scheduler.specs.Answer.{number, value}
-use Rattle.carv_scheduler.specs.Scheduler.{Board, Choice, idle, inactive, running, dead, is, no-wait, no-payer, fresh, or-fresh, found, thread, has, become, with-registry, renew-for, has-time, put-back, choose, switch-to, switch-value}
+use Rattle.carv_board.specs.Scheduler.{Board, Choice, idle, running, dead, is, no-wait, thread, become, with-registry, renew-for, has-time, put-back, choose, switch-to, switch-value}
 use Rattle.carv_scheduler.specs.Area.{registry-part, decode}
 use Rattle.carv_scheduler.specs.Rows.{no-row}
+use Rattle.carv_scheduler.specs.Places.{here-has, here-thread, gone-has, gone-thread}
 use Rattle.carv_scheduler.specs.Formed.{WellFormed, Leaves, leaves-as, unchanged, registry-written}
 use Rattle.carv_scheduler.specs.AreaSteps.{with-threads, with-queue}
-use Rattle.carv_scheduler.specs.Switching.{eligible}
+use Rattle.carv_board.specs.Switching.{eligible}
 use Rattle.carv_scheduler.specs.Walk.{Walked, walk, tested, choice-at, walk-within, choose-walk, Walking, walking-starts, walking-on, walking-found, walking-ends}
 
 -- the place behind one that was found: a guess, which decides nothing
@@ -115,31 +116,7 @@ pub record Switches (i : ℕ) (a : List ℕ) (r : Answer) (a′ : List ℕ) : Ty
   pub values : Values (decode a .current) i (decode a) r
   pub area : Leaves a′ (switch-to (choice i (decode a)) (decode a))
 
--- What is read of a thread that is there, and of one that is not.
-module _ (m : List (Row Thread)) (x : ℕ) where
-  pub thread-here : (i : ℕ) → Here no-row m x i → thread m x ≡ getD m i no-row .it
-  thread-here i h = ap or-fresh (h .is)
-
-  pub has-here : (i : ℕ) → Here no-row m x i → has m x ≡ true
-  has-here i h = ap found (h .is)
-
-  pub thread-gone : Gone m x → thread m x ≡ fresh inactive no-payer
-  thread-gone g = ap or-fresh (g .is)
-
-  has-gone : Gone m x → has m x ≡ false
-  has-gone g = ap found (g .is)
-
-  -- what was found
-  pub found-here : (p : Found) → Located no-row m x p → (i : ℕ) → p ≡ At i → Here no-row m x i
-  found-here p l i e = subst (Located no-row m x) e l
-
-  pub found-gone : (p : Found) → Located no-row m x p → p ≡ Nothing → Gone m x
-  found-gone p l e = subst (Located no-row m x) e l
-
 -- Renewing and testing.
-
-pub length-registry : (a : List ℕ) → length a ≡ 68_144 → length (part 0 45_072 a) ≡ 45_072
-length-registry a z = length-part 0 45_072 a (omega arith)
 
 pub renewing : (a : List ℕ) → WellFormed a → (time i : ℕ) (r : Bool) (p : List ℕ) → length p ≡ 45_072 → objects.Renews i time (registry-part a) r p
     → Renewing time i a r (putPart 0 45_072 a p)
@@ -159,20 +136,20 @@ module _ (time : ℕ) (a : List ℕ) (k : WellFormed a) where
   module _ (x : ℕ) where
     pub tries-gone : Gone (decode a .threads) x → Tries time x a Nothing a
     tries-gone g = record {
-      answer = sym (ap (λ (b : Bool). b && has-time (thread (decode a .threads) x .budget) (tested time (decode a .threads) x (decode a .registry))) (has-gone (decode a .threads) x g));
+      answer = sym (ap (λ (b : Bool). b && has-time (thread (decode a .threads) x .budget) (tested time (decode a .threads) x (decode a .registry))) (gone-has (decode a .threads) x g));
       here = λ j e. let z : _≡_ {A = ℕ} 0 1 = cc in absurd (omega arith);
-      area = leaves-as a _ _ (sym (ap (λ (t : Thread). with-registry (renew-for time (t .budget) (decode a .registry)) (decode a)) (thread-gone (decode a .threads) x g))) (unchanged a k);
+      area = leaves-as a _ _ (sym (ap (λ (t : Thread). with-registry (renew-for time (t .budget) (decode a .registry)) (decode a)) (gone-thread (decode a .threads) x g))) (unchanged a k);
     }
 
     module _ (i : ℕ) (h : Here no-row (decode a .threads) x i) (r : Bool) (a′ : List ℕ) (w : Tests time (getD (decode a .threads) i no-row .it .budget) a r a′) where
       tried : r ≡ eligible time (decode a .threads) x (decode a .registry)
       tried =
           w .answer
-          ∙ sym (ap (λ (t : Thread). has-time (t .budget) (renew-for time (t .budget) (decode a .registry))) (thread-here (decode a .threads) x i h))
-          ∙ sym (ap (λ (b : Bool). b && has-time (thread (decode a .threads) x .budget) (tested time (decode a .threads) x (decode a .registry))) (has-here (decode a .threads) x i h))
+          ∙ sym (ap (λ (t : Thread). has-time (t .budget) (renew-for time (t .budget) (decode a .registry))) (here-thread (decode a .threads) x i h))
+          ∙ sym (ap (λ (b : Bool). b && has-time (thread (decode a .threads) x .budget) (tested time (decode a .threads) x (decode a .registry))) (here-has (decode a .threads) x i h))
 
       tried-area : Leaves a′ (with-registry (tested time (decode a .threads) x (decode a .registry)) (decode a))
-      tried-area = leaves-as a′ _ _ (sym (ap (λ (t : Thread). with-registry (renew-for time (t .budget) (decode a .registry)) (decode a)) (thread-here (decode a .threads) x i h))) (w .area)
+      tried-area = leaves-as a′ _ _ (sym (ap (λ (t : Thread). with-registry (renew-for time (t .budget) (decode a .registry)) (decode a)) (here-thread (decode a .threads) x i h))) (w .area)
 
       pub tries-so : r ≡ true → Tries time x a (At i) a′
       tries-so e = record { answer = sym e ∙ tried; here = λ j q. let d : i ≡ j = cc in subst (Here no-row (decode a .threads) x) d h; area = tried-area }

@@ -1,15 +1,15 @@
 -- The board's calls question by question: what each replies where the first question that is missed is this one, and where none is. Assumes nothing.
-use mathlib.Core.Path.{_≡_, refl}
-use mathlib.Core.Bool.{Bool, true, false, not, _&&_}
+use mathlib.Core.Path.{_≡_}
+use mathlib.Core.Bool.{Bool, true, false, _&&_}
 use mathlib.Core.Option.{none, some}
 use Prim.Native.Nat.{ℕ, _≤_, _<_}
-use lib.Dec.{eqb, ltb}
+use lib.Dec.{eqb}
 use lib.ListN.{length}
 use borrow.Author.Tests.{eq-eqb, ne-eqb, lt-ltb, le-ltb}
 use Rattle.carv_area.specs.Table.{alter, put}
 use Rattle.carv_objects.specs.Answer.{refuse, accept}
-use Rattle.carv_scheduler.specs.declared.Context.{Context}
-use Rattle.carv_scheduler.specs.Scheduler.{Board, Answers, idle, inactive, running, blocked, is, wait, wait-listed, payer, in-space, fresh, thread, has, become, started, with-threads, join, is-blocked, record-of, create-user-thread, start, block-current, is-blocked-on, read-thread}
+use Rattle.carv_board.specs.declared.Context.{Context}
+use Rattle.carv_board.specs.Scheduler.{Board, idle, inactive, running, blocked, is, wait, wait-listed, payer, in-space, fresh, thread, has, become, started, with-threads, join, is-blocked, record-of, create-user-thread, start, block-current, is-blocked-on, read-thread}
 
 module _ (i budget : ℕ) (stack : Bool) (b : Board) where
   pub create-known : has (b .threads) i ≡ true → create-user-thread i budget stack b ≡ refuse 5 b

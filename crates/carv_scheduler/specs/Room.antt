@@ -1,19 +1,19 @@
 -- A sound board's queue has a place for a thread that is not in it: its ids are distinct threads, and neither that one nor idle. Assumes nothing.
 use mathlib.Core.Path.{_≡_, refl, sym, _∙_, ap}
-use mathlib.Core.Bool.{Bool, true, false, not, _&&_, false≢true, true≢false}
+use mathlib.Core.Bool.{true, false, false≢true, true≢false}
 use mathlib.Core.List.{List, [], _∷_}
-use Prim.Native.Nat.{ℕ, suc, _+_, _^_, _≤_, _<_}
+use Prim.Native.Nat.{ℕ, suc, _^_, _≤_, _<_}
 use native.Mathlib.Omega.{arith}
 use lib.Dec.{eqb}
 use lib.ListN.{length}
 use borrow.Author.Tests.{eqb-true, eq-eqb}
 use Rattle.carv_area.specs.Table.{Row, erase, Rising, rising-erase, test}
-use Rattle.carv_scheduler.specs.declared.Thread.{Thread}
-use Rattle.carv_scheduler.specs.Scheduler.{Board, idle, ready, is, thread, has}
-use Rattle.carv_scheduler.specs.Sound.{member, distinct}
-use Rattle.carv_scheduler.specs.SoundFacts.{Sound}
-use Rattle.carv_scheduler.specs.SoundLaws.{queued-busy, queued-ready, queued-there}
-use Rattle.carv_scheduler.specs.Reading.{or-true, eqb-turned, has-erase, distinct-first, distinct-rest}
+use Rattle.carv_board.specs.declared.Thread.{Thread}
+use Rattle.carv_board.specs.Scheduler.{Board, idle, ready, is, thread, has}
+use Rattle.carv_board.specs.Sound.{member, distinct}
+use Rattle.carv_board.specs.SoundFacts.{Sound}
+use Rattle.carv_board.specs.SoundLaws.{queued-busy, queued-ready, queued-there}
+use Rattle.carv_board.specs.Reading.{or-true, eqb-turned, has-erase, distinct-first, distinct-rest}
 
 -- one row fewer
 length-erased : (m : List (Row Thread)) (i : ℕ) → has m i ≡ true → suc (length (erase i m)) ≡ length m

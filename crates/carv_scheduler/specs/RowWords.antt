@@ -1,31 +1,33 @@
--- One word of a thread record, read and written where it stands. Assumes nothing.
-use Prim.Native.Nat.{ℕ, zero, suc, _+_, _*_, _^_, _%_, _<_}
+-- Words of a thread record, read and written where they stand. Assumes nothing.
+use Prim.Native.Nat.{ℕ, zero, suc, _+_, _*_, _^_, _%_, _≤_, _<_}
 use native.Mathlib.Omega.{arith}
 use mathlib.Core.Path.{_≡_, refl, sym, ap, _∙_}
 use mathlib.Core.List.{List, [], _∷_}
 use lib.ListN.{length, getD, set, length-set}
 use lib.Seq.{sets, length-sets, set-set, set-comm, set-getD}
-use Rattle.carv_area.specs.Table.{Row}
+use Rattle.carv_area.specs.Table.{Row, alter}
 use Rattle.carv_area.specs.Words.{words}
 use Rattle.carv_area.specs.Parts.{putPart}
 use Rattle.carv_area.specs.Rows.{Holds, holds-word, holds-set, holds-inj}
-use Rattle.carv_scheduler.specs.declared.Results.{Results}
-use Rattle.carv_scheduler.specs.declared.Thread.{Thread}
-use Rattle.carv_scheduler.specs.Scheduler.{woken, ticked}
+use Rattle.carv_area.specs.Lookup.{Here}
+use Rattle.carv_board.specs.declared.Wait.{Wait}
+use Rattle.carv_board.specs.declared.Results.{Results}
+use Rattle.carv_board.specs.declared.Thread.{Thread}
+use Rattle.carv_board.specs.Scheduler.{ready, no-wait, become, woken, ticked}
 use Rattle.carv_scheduler.specs.Area.{threads-part, thread-fields, decode}
-use Rattle.carv_scheduler.specs.Rows.{row, no-row, wide, set-thread}
+use Rattle.carv_scheduler.specs.Rows.{row, no-row, wide, set-state, set-results, set-ticks, set-woken, set-thread}
 use Rattle.carv_scheduler.specs.Formed.{WellFormed, Leaves}
 use Rattle.carv_scheduler.specs.AreaSteps.{with-threads, thread-set}
 
--- the words l with the record at place i awake, and with n run ticks
+-- the row r with another state and wait
+abbrev pub with-state : ℕ → Wait → Row Thread → Row Thread
+with-state s w r = row (r .id) (become s w (r .it))
 
-unfoldable pub set-woken : List ℕ → ℕ → Results → List ℕ
-set-woken l i r = set (set (set (set (set (set l (i * 21 + 2) 2) (i * 21 + 3) 0) (i * 21 + 4) 0) (i * 21 + 18) (r .first)) (i * 21 + 19) (r .second)) (i * 21 + 20) (r .third)
+-- the thread x, by its place
+pub state-of : (m : List (Row Thread)) (x i : ℕ) → Here no-row m x i → (s : ℕ) (w : Wait) → set m i (with-state s w (getD m i no-row)) ≡ alter x (become s w) m
+state-of m x i h s w = rw (h .same) (sym (h .changed (become s w)))
 
-unfoldable pub set-ticks : List ℕ → (i n : ℕ) → List ℕ
-set-ticks l i n = set l (i * 21 + 21) n
-
--- a run of stores, and one more before it or in it
+-- a run of stores, and one more before it or in it, or a run in it
 
 sets-past : (l : List ℕ) (o j v : ℕ) (vs : List ℕ) → j < o → set (sets l o vs) j v ≡ sets (set l j v) o vs
 sets-past l o j v [] h = refl
@@ -38,35 +40,17 @@ sets-set l o (x ∷ vs) zero v k h e =
     rw q (sets-past (set l o x) (suc o) o v vs (omega arith) ∙ ap (λ (m : List ℕ). sets m (suc o) vs) (set-set l o x v))
 sets-set l o (x ∷ vs) (suc c) v k h e = sets-set (set l o x) (suc o) vs c v k (omega arith) (omega arith)
 
--- the words of a record, vs, in which one or six are written
+sets-sets : (l : List ℕ) (o : ℕ) (vs : List ℕ) (c : ℕ) (us : List ℕ) (k : ℕ) → c + length us ≤ length vs → k ≡ o + c → sets (sets l o vs) k us ≡ sets l o (sets vs c us)
+sets-sets l o vs c [] k h e = refl
+sets-sets l o vs c (u ∷ us) k h e =
+    ap (λ (m : List ℕ). sets m (suc k) us) (sets-set l o vs c u k (omega arith) e)
+    ∙ sets-sets l o (set vs c u) (suc c) us (suc k) (let z = length-set vs c u in omega arith) (omega arith)
 
-one-set : (l : List ℕ) (i : ℕ) (vs : List ℕ) → length vs ≡ 21 → (n : ℕ) → set-ticks (sets l (i * 21 + 1) vs) i n ≡ sets l (i * 21 + 1) (set vs 20 n)
-unfolding set-ticks
-one-set l i vs z n = sets-set l (i * 21 + 1) vs 20 n (i * 21 + 21) (omega arith) (omega arith)
+-- the words of a record, vs, in which some are written
 
-six-set : (l : List ℕ) (i : ℕ) (vs : List ℕ) → length vs ≡ 21 → (r : Results)
-    → set-woken (sets l (i * 21 + 1) vs) i r ≡ sets l (i * 21 + 1) (set (set (set (set (set (set vs 1 2) 2 0) 3 0) 17 (r .first)) 18 (r .second)) 19 (r .third))
-unfolding set-woken
-six-set l i vs z r =
-    let o = i * 21 + 1 in
-    let v₁ = set vs 1 2 in
-    let v₂ = set v₁ 2 0 in
-    let v₃ = set v₂ 3 0 in
-    let v₄ = set v₃ 17 (r .first) in
-    let v₅ = set v₄ 18 (r .second) in
-    let z₁ : length v₁ ≡ 21 = length-set vs 1 2 ∙ z in
-    let z₂ : length v₂ ≡ 21 = length-set v₁ 2 0 ∙ z₁ in
-    let z₃ : length v₃ ≡ 21 = length-set v₂ 3 0 ∙ z₂ in
-    let z₄ : length v₄ ≡ 21 = length-set v₃ 17 (r .first) ∙ z₃ in
-    let z₅ : length v₅ ≡ 21 = length-set v₄ 18 (r .second) ∙ z₄ in
-    rw (
-      sets-set l o vs 1 2 (i * 21 + 2) (omega arith) (omega arith),
-      sets-set l o v₁ 2 0 (i * 21 + 3) (omega arith) (omega arith),
-      sets-set l o v₂ 3 0 (i * 21 + 4) (omega arith) (omega arith),
-      sets-set l o v₃ 17 (r .first) (i * 21 + 18) (omega arith) (omega arith),
-      sets-set l o v₄ 18 (r .second) (i * 21 + 19) (omega arith) (omega arith),
-      sets-set l o v₅ 19 (r .third) (i * 21 + 20) (omega arith) (omega arith),
-    )
+some-set : (l : List ℕ) (i : ℕ) (vs : List ℕ) → length vs ≡ 21 → (c : ℕ) (us : List ℕ) → c + length us ≤ 21 → (k : ℕ) → k ≡ i * 21 + 1 + c
+    → sets (sets l (i * 21 + 1) vs) k us ≡ sets l (i * 21 + 1) (sets vs c us)
+some-set l i vs z c us h k e = sets-sets l (i * 21 + 1) vs c us k (omega arith) e
 
 -- the words of a table of threads
 module _ (l : List ℕ) (rows : List (Row Thread)) (h : Holds thread-fields 21 l rows) (i : ℕ) (a : i < length rows) where
@@ -77,16 +61,24 @@ module _ (l : List ℕ) (rows : List (Row Thread)) (h : Holds thread-fields 21 l
       rw (set-getD rows i no-row) at (holds-set thread-fields 21 wide l rows h i (getD rows i no-row) a) in
       holds-inj thread-fields 21 wide _ l rows k h (length-sets l (i * 21 + 1) (thread-fields (getD rows i no-row)))
 
+  state-set : (s : ℕ) (w : Wait) → set-state l i s w ≡ set-thread l i (with-state s w (getD rows i no-row))
+  unfolding set-state set-thread
+  state-set s w =
+      ap (λ (m : List ℕ). set-state m i s w) (sym row-same)
+      ∙ some-set l i (thread-fields (getD rows i no-row)) refl 1 (s ∷ w .kind ∷ w .number ∷ []) (omega arith) (i * 21 + 2) (omega arith)
+
   woken-set : (r : Results) → set-woken l i r ≡ set-thread l i (row (getD rows i no-row .id) (woken r (getD rows i no-row .it)))
-  unfolding set-thread
-  woken-set r = ap (λ (m : List ℕ). set-woken m i r) (sym row-same) ∙ six-set l i (thread-fields (getD rows i no-row)) refl r
+  unfolding set-results set-thread
+  woken-set r =
+      ap (λ (m : List ℕ). set-results m i r) (state-set ready no-wait)
+      ∙ some-set l i (thread-fields (with-state ready no-wait (getD rows i no-row))) refl 17 (r .first ∷ r .second ∷ r .third ∷ []) (omega arith) (i * 21 + 18) (omega arith)
 
   ticks-set : (n : ℕ) → n ≡ (getD l (i * 21 + 21) 0 + 1) % 2 ^ 64 → set-ticks l i n ≡ set-thread l i (row (getD rows i no-row .id) (ticked (getD rows i no-row .it)))
-  unfolding set-thread
+  unfolding set-ticks set-thread
   ticks-set n e =
       let w : getD l (i * 21 + 21) 0 ≡ getD rows i no-row .it .ticks = holds-word thread-fields 21 wide l rows h i 20 no-row a (omega arith) in
       rw (e, w) (ap (λ (m : List ℕ). set-ticks m i ((getD rows i no-row .it .ticks + 1) % 2 ^ 64)) (sym row-same)
-      ∙ one-set l i (thread-fields (getD rows i no-row)) refl ((getD rows i no-row .it .ticks + 1) % 2 ^ 64))
+      ∙ some-set l i (thread-fields (getD rows i no-row)) refl 20 ((getD rows i no-row .it .ticks + 1) % 2 ^ 64 ∷ []) (omega arith) (i * 21 + 21) (omega arith))
 
 -- What is read of a well-formed area, and left where one part was written, p.
 module _ (a : List ℕ) (k : WellFormed a) (i : ℕ) (h : i < length (decode a .threads)) where
@@ -99,6 +91,10 @@ module _ (a : List ℕ) (k : WellFormed a) (i : ℕ) (h : i < length (decode a .
       word-place i c = omega arith
 
   module _ (p : List ℕ) (z : length p ≡ 21_512) where
+    pub thread-state : (s : ℕ) (w : Wait) → words p ≡ set-state (words (threads-part a)) i s w
+        → Leaves (putPart 45_088 21_512 a p) (with-threads (set (decode a .threads) i (with-state s w (getD (decode a .threads) i no-row))) (decode a))
+    thread-state s w q = thread-set a k p z i _ _ h refl (q ∙ state-set (words (threads-part a)) (decode a .threads) (k .threads .holds) i h s w)
+
     pub thread-woken : (r : Results) → words p ≡ set-woken (words (threads-part a)) i r
         → Leaves (putPart 45_088 21_512 a p) (with-threads (set (decode a .threads) i (row (getD (decode a .threads) i no-row .id) (woken r (getD (decode a .threads) i no-row .it)))) (decode a))
     thread-woken r q = thread-set a k p z i _ _ h refl (q ∙ woken-set (words (threads-part a)) (decode a .threads) (k .threads .holds) i h r)

@@ -5,19 +5,19 @@ use native.Mathlib.Numerals.{towards-numerals}
 use native.Mathlib.Nat.{add-assoc}
 use mathlib.Core.Path.{_≡_, refl, ap, _∙_}
 use mathlib.Core.List.{List, [], _∷_}
-use lib.ListN.{length, getD}
+use lib.ListN.{length, getD, set}
 use lib.Seq.{sets}
 use Rattle.carv_area.specs.Table.{Row}
 use Rattle.carv_area.specs.Rows.{Holds, holds-word}
 use Rattle.carv_area.specs.Stored.{rows-are}
-use Rattle.carv_scheduler.specs.declared.Wait.{Wait}
-use Rattle.carv_scheduler.specs.declared.Payer.{Payer}
-use Rattle.carv_scheduler.specs.declared.Space.{Space}
-use Rattle.carv_scheduler.specs.declared.Context.{Context}
-use Rattle.carv_scheduler.specs.declared.Results.{Results}
-use Rattle.carv_scheduler.specs.declared.Thread.{Thread}
-use Rattle.carv_scheduler.specs.declared.Exit.{Exit}
-use Rattle.carv_scheduler.specs.Scheduler.{fresh, inactive, no-payer}
+use Rattle.carv_board.specs.declared.Wait.{Wait}
+use Rattle.carv_board.specs.declared.Payer.{Payer}
+use Rattle.carv_board.specs.declared.Space.{Space}
+use Rattle.carv_board.specs.declared.Context.{Context}
+use Rattle.carv_board.specs.declared.Results.{Results}
+use Rattle.carv_board.specs.declared.Thread.{Thread}
+use Rattle.carv_board.specs.declared.Exit.{Exit}
+use Rattle.carv_board.specs.Scheduler.{fresh, inactive, ready, no-payer, no-wait}
 use Rattle.carv_scheduler.specs.Area.{thread-fields, thread-at, threads-in, exit-fields, exit-at, exits-in}
 
 abbrev pub row : ℕ → Thread → Row Thread
@@ -28,6 +28,9 @@ wide r = refl
 
 -- the words l with a part of a record, or a whole record, at place i
 
+unfoldable pub set-state : List ℕ → (i state : ℕ) → Wait → List ℕ
+set-state l i state w = sets l (i * 21 + 2) (state ∷ w .kind ∷ w .number ∷ [])
+
 unfoldable pub set-start : List ℕ → (i id state : ℕ) → Wait → Payer → List ℕ
 set-start l i id state w p = sets l (i * 21 + 1) (id ∷ state ∷ w .kind ∷ w .number ∷ p .is ∷ p .id ∷ [])
 
@@ -37,11 +40,32 @@ set-place l i s = sets l (i * 21 + 7) (s .is ∷ s .space ∷ s .cspace ∷ s .r
 unfoldable pub set-context : List ℕ → ℕ → Context → List ℕ
 set-context l i c = sets l (i * 21 + 11) (c .rip ∷ c .rsp ∷ c .rflags ∷ c .rdi ∷ c .rsi ∷ c .cs ∷ c .ss ∷ [])
 
+unfoldable pub set-results : List ℕ → ℕ → Results → List ℕ
+set-results l i r = sets l (i * 21 + 18) (r .first ∷ r .second ∷ r .third ∷ [])
+
+unfoldable pub set-ticks : List ℕ → (i n : ℕ) → List ℕ
+set-ticks l i n = set l (i * 21 + 21) n
+
 unfoldable pub set-end : List ℕ → ℕ → Results → ℕ → List ℕ
 set-end l i r n = sets l (i * 21 + 18) (r .first ∷ r .second ∷ r .third ∷ n ∷ [])
 
 unfoldable pub set-thread : List ℕ → ℕ → Row Thread → List ℕ
 set-thread l i r = sets l (i * 21 + 1) (thread-fields r)
+
+-- the same with the record at place i awake
+abbrev pub set-woken : List ℕ → ℕ → Results → List ℕ
+set-woken l i r = set-results (set-state l i ready no-wait) i r
+
+-- `write_start` and `write_end`
+
+pub start-set : (l l₁ l₂ l₃ l₄ : List ℕ) (i id state : ℕ) (w : Wait) (p : Payer) → l₁ ≡ set l (i * 21 + 1) id → l₂ ≡ set-state l₁ i state w
+    → l₃ ≡ set l₂ (i * 21 + 5) (p .is) → l₄ ≡ set l₃ (i * 21 + 6) (p .id) → l₄ ≡ set-start l i id state w p
+unfolding set-start set-state
+start-set l l₁ l₂ l₃ l₄ i id state w p e₁ e₂ e₃ e₄ = rw (e₄, e₃, e₂, e₁) (simp towards-numerals)
+
+pub end-set : (l l₁ l₂ : List ℕ) (i : ℕ) (r : Results) (n : ℕ) → l₁ ≡ set-results l i r → l₂ ≡ set l₁ (i * 21 + 21) n → l₂ ≡ set-end l i r n
+unfolding set-end set-results
+end-set l l₁ l₂ i r n e₁ e₂ = rw (e₂, e₁) (simp towards-numerals)
 
 -- `write_thread`
 pub thread-set : (l l₁ l₂ l₃ l₄ : List ℕ) (i id : ℕ) (t : Thread) → l₁ ≡ set-start l i id (t .state) (t .wait) (t .budget) → l₂ ≡ set-place l₁ i (t .place)

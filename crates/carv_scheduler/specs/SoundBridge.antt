@@ -1,26 +1,26 @@
 -- What question 1's walks find by place is what the test of specs/Area.antt asks. Assumes nothing.
 use mathlib.Core.Path.{_≡_, sym, _∙_}
-use mathlib.Core.Bool.{Bool, true, false, _&&_, false≢true}
+use mathlib.Core.Bool.{Bool, true, false, false≢true}
 use mathlib.Core.List.{List}
-use Prim.Native.Nat.{ℕ, _+_, _*_, _^_, _≤_}
-use lib.Dec.{eqb, leb}
-use lib.ListN.{length, getD, drop}
-use borrow.Author.Tests.{eqb-true, eq-eqb, leb-true, le-leb}
+use Prim.Native.Nat.{ℕ, _^_, _≤_}
+use lib.ListN.{length, getD}
+use borrow.Author.Tests.{leb-true, le-leb}
 use Rattle.carv_area.specs.Table.{test}
 use Rattle.carv_area.specs.Lists.{length-tab}
 use Rattle.carv_area.specs.Words.{words}
 use Rattle.carv_area.specs.Keys.{keys}
-use Rattle.carv_area.specs.Zero.{allZero}
-use Rattle.carv_budget.specs.Laws.{first, second}
 use Rattle.carv_objects.specs.Registry.{Registry}
 use Rattle.carv_objects.specs.Area as objects
 use Rattle.carv_objects.specs.Sound as registry
 use Rattle.carv_objects.specs.Sound.{all}
 use Rattle.carv_objects.specs.SoundLaws.{all-told, all-shown, rises-told, rises-shown}
+use Rattle.carv_objects.specs.SoundLaws as registry-laws
+use Rattle.carv_objects.specs.Calls as registry-calls
 use Rattle.carv_objects.specs.SoundWalk.{Tells}
-use Rattle.carv_scheduler.specs.Scheduler.{Board, cause-listed}
-use Rattle.carv_scheduler.specs.Sound.{each, thread-tests, board-tests, sound}
-use Rattle.carv_scheduler.specs.Area.{registry-part, head, threads-part, queue-part, exits-part, thread-at, threads-in, exit-at, exits-in, decode, behind, sound-area}
+use Rattle.carv_board.specs.Scheduler.{Board, cause-listed}
+use Rattle.carv_board.specs.Sound.{each, thread-tests, board-tests, sound}
+use Rattle.carv_scheduler.specs.Area.{registry-part, head, threads-part, queue-part, exits-part, thread-at, threads-in, exit-at, exits-in, decode, sound-area}
+use Rattle.carv_scheduler.specs.AreaLaws.{asked-told, asked-shown}
 use Rattle.carv_scheduler.specs.SoundWalk.{SoundThreads, SoundTables, SoundExits, SoundParts}
 use Rattle.carv_scheduler.specs.SoundThread.{tests-told, tests-shown}
 use Rattle.carv_scheduler.specs.SoundRows.{every-out, every-in, length-threads}
@@ -90,57 +90,42 @@ module _ (r : Registry) (w v u : List ℕ) (c s : ℕ) where
 
 -- ---- question 1
 
--- a sound area's registry is sound
-registry-sound : (a : List ℕ) → objects.sound-area a ≡ true → registry.sound (objects.decode a) ≡ true
-unfolding objects.sound-area
-registry-sound a h =
-    let z : Bool = allZero (drop (getD (words (objects.table a)) 0 0 * 11 + 1) (words (objects.table a))) in
-    first (registry.sound (objects.decode a)) z (second (eqb (length a) 45_072) (registry.sound (objects.decode a) && z) h)
-
--- what question 1 asks of the bytes a
-record Asked (a : List ℕ) : Type 0 where
+-- what question 1 asks of the bytes a, by parts
+record ByParts (a : List ℕ) : Type 0 where
   size : length a ≡ 68_144
   registry : objects.sound-area (registry-part a) ≡ true
   parts : SoundParts a
 
-asked-out : (a : List ℕ) → sound-area a ≡ true → Asked a
-unfolding sound-area
-asked-out a h =
-    let w = words (threads-part a) in
-    let v = words (queue-part a) in
-    let u = words (exits-part a) in
-    let h₂ = second (eqb (length a) 68_144) _ h in
-    let h₃ = second (objects.sound-area (registry-part a)) _ h₂ in
-    let h₄ = second (sound (decode a)) _ h₃ in
-    let h₅ = second (allZero (behind 21 w)) _ h₄ in
-    let h₆ = second (leb (getD v 0 0) 127) _ h₅ in
-    let F = found-out (objects.decode (registry-part a)) w v u (getD (words (head a)) 0 0) (getD (words (head a)) 1 0) (first (sound (decode a)) _ h₃) in
+parts-out : (a : List ℕ) → sound-area a ≡ true → ByParts a
+parts-out a h =
+    let k = asked-told a h in
+    let F = found-out (objects.decode (registry-part a)) (words (threads-part a)) (words (queue-part a)) (words (exits-part a))
+    (getD (words (head a)) 0 0) (getD (words (head a)) 1 0) (k .sound) in
     record {
-      size = eqb-true (length a) 68_144 (first (eqb (length a) 68_144) _ h);
-      registry = first (objects.sound-area (registry-part a)) _ h₂;
+      size = k .size;
+      registry = k .registry;
       parts = record {
-        tables = record {
-          few = F .few;
-          few-queue = leb-true (getD v 0 0) 127 (first (leb (getD v 0 0) 127) _ h₅);
-          rest = first (allZero (behind 21 w)) _ h₄;
-          rest-queue = first (allZero (behind 1 v)) (allZero (behind 2 u)) h₆;
-          threads = F .threads;
-        };
-        exits = record { few = F .few-exits; rest = second (allZero (behind 1 v)) (allZero (behind 2 u)) h₆; causes = F .causes };
+        tables = record { few = F .few; few-queue = k .count; rest = k .threads; rest-queue = k .queue; threads = F .threads };
+        exits = record { few = F .few-exits; rest = k .exits; causes = F .causes };
       };
     }
 
-asked-in : (a : List ℕ) → Asked a → sound-area a ≡ true
-unfolding sound-area
-asked-in a k =
-    let w = words (threads-part a) in
-    let v = words (queue-part a) in
-    let u = words (exits-part a) in
+parts-in : (a : List ℕ) → ByParts a → sound-area a ≡ true
+parts-in a k =
     let T = k .parts .tables in
     let X = k .parts .exits in
-    let F : Found w v u (getD (words (head a)) 0 0) = record { few = T .few; threads = T .threads; few-exits = X .few; causes = X .causes } in
-    let s : sound (decode a) ≡ true = found-in (objects.decode (registry-part a)) w v u (getD (words (head a)) 0 0) (getD (words (head a)) 1 0) (registry-sound (registry-part a) (k .registry)) F in
-    rw (eq-eqb (length a) 68_144 (k .size), k .registry, s, T .rest, le-leb (getD v 0 0) 127 (T .few-queue), T .rest-queue) (X .rest)
+    asked-shown a (record {
+      size = k .size;
+      registry = k .registry;
+      sound = found-in (objects.decode (registry-part a)) (words (threads-part a)) (words (queue-part a)) (words (exits-part a))
+          (getD (words (head a)) 0 0) (getD (words (head a)) 1 0)
+          (registry-laws.sound-shown (objects.decode (registry-part a)) (registry-calls.area-sound (registry-part a) (k .registry)))
+          (record { few = T .few; threads = T .threads; few-exits = X .few; causes = X .causes });
+      threads = T .rest;
+      count = T .few-queue;
+      queue = T .rest-queue;
+      exits = X .rest;
+    })
 
 -- `parts_are_sound`: c is the current thread
 module _ (a : List ℕ) (c : ℕ) (is-c : c ≡ getD (words (head a)) 0 0) where
@@ -152,8 +137,8 @@ module _ (a : List ℕ) (c : ℕ) (is-c : c ≡ getD (words (head a)) 0 0) where
 
 -- `is_sound`
 module _ (a : List ℕ) where
-  refused : (Asked a → ⊥) → false ≡ sound-area a
-  refused h = test (sound-area a) (λ e. absurd (h (asked-out a e))) (λ e. sym e)
+  refused : (ByParts a → ⊥) → false ≡ sound-area a
+  refused h = test (sound-area a) (λ e. absurd (h (parts-out a e))) (λ e. sym e)
 
   pub asked-size : (length a ≡ 68_144 → ⊥) → false ≡ sound-area a
   asked-size h = refused (λ k. h (k .size))
@@ -163,5 +148,5 @@ module _ (a : List ℕ) where
 
   pub asked : length a ≡ 68_144 → objects.sound-area (registry-part a) ≡ true → (r : Bool) → Tells r (SoundParts a) → r ≡ sound-area a
   asked size registry r t = test r
-      (λ q. q ∙ sym (asked-in a (record { size = size; registry = registry; parts = t .so q })))
+      (λ q. q ∙ sym (parts-in a (record { size = size; registry = registry; parts = t .so q })))
       (λ q. q ∙ refused (λ k. t .not q (k .parts)))

@@ -16,9 +16,9 @@ use Rattle.carv_area.specs.Lists.{tab, apart, same-or-not}
 use Rattle.carv_area.specs.Moves.{zeros}
 use Rattle.carv_area.specs.Keys.{keys}
 use Rattle.carv_budget.specs.Laws.{first, second}
-use Rattle.carv_scheduler.specs.Scheduler.{idle, ready, is, thread, has}
-use Rattle.carv_scheduler.specs.Sound.{member, distinct}
-use Rattle.carv_scheduler.specs.Reading.{member-join, distinct-join, distinct-first, distinct-rest}
+use Rattle.carv_board.specs.Scheduler.{idle, ready, is, thread, has}
+use Rattle.carv_board.specs.Sound.{member, distinct}
+use Rattle.carv_board.specs.Reading.{member-join, distinct-join, distinct-first, distinct-rest}
 use Rattle.carv_scheduler.specs.Area.{threads-in}
 use Rattle.carv_scheduler.specs.SoundWalk.{id-at, it-at, key-at, Rise, Fits, Fit, queued, bit, SoundQueue, Walk}
 use Rattle.carv_scheduler.specs.SoundRows.{tab-snoc, each-out, each-in, one-more, key-is, Stands, stands-has, stands-thread, missing-has}

@@ -1,7 +1,7 @@
 -- Rows by place and by id, for question 1: tests of a list made of a function, the order of the threads' ids, and what stands under an id. Assumes nothing.
 use mathlib.Core.Path.{_≡_, refl, sym, _∙_, ap, subst}
 use mathlib.Core.Logic.{⊎-elim}
-use mathlib.Core.Bool.{Bool, true, false, false≢true}
+use mathlib.Core.Bool.{Bool, true, false≢true}
 use mathlib.Core.Option.{none, some}
 use mathlib.Core.List.{List, [], _∷_, _++_, map}
 use Prim.Native.Nat.{ℕ, zero, suc, _+_, _-_, _*_, _^_, _≤_, _<_}
@@ -17,14 +17,15 @@ use Rattle.carv_area.specs.Keys as keys
 use Rattle.carv_area.specs.Keys.{keys, length-keys, getD-keys, findIn}
 use Rattle.carv_area.specs.Zero.{allZero}
 use Rattle.carv_area.specs.Stored.{Keyed, keyed-of}
-use Rattle.carv_area.specs.Lookup.{ids, Here, Gone, Located, located, rising-ids, ids-rising}
+use Rattle.carv_area.specs.Lookup.{ids, Located, located, rising-ids, ids-rising}
 use Rattle.carv_budget.specs.Laws.{first, second}
 use Rattle.carv_objects.specs.Sound.{every}
-use Rattle.carv_scheduler.specs.declared.Thread.{Thread}
-use Rattle.carv_scheduler.specs.Scheduler.{or-fresh, found, thread, has}
-use Rattle.carv_scheduler.specs.Sound.{each}
+use Rattle.carv_board.specs.declared.Thread.{Thread}
+use Rattle.carv_board.specs.Scheduler.{or-fresh, found, thread, has}
+use Rattle.carv_board.specs.Sound.{each}
 use Rattle.carv_scheduler.specs.Area.{thread-at, threads-in, behind}
 use Rattle.carv_scheduler.specs.Rows.{no-row}
+use Rattle.carv_scheduler.specs.Places.{found-here, found-gone}
 use Rattle.carv_scheduler.specs.SoundWalk.{id-at, it-at, key-at, Ordered, Rise, Order}
 
 -- ---- lists made of a function
@@ -164,7 +165,7 @@ module _ (w : List ℕ) (x : ℕ) (p : Found) (e : p ≡ findIn (keys 21 w) x) w
   pub stands : (i : ℕ) → p ≡ At i → Stands w x i
   unfolding threads-in
   stands i q =
-      let h : Here no-row (threads-in w) x i = subst (Located no-row (threads-in w) x) q located-in in
+      let h = found-here (threads-in w) x p located-in i q in
       let l : i < getD w 0 0 = omega (arith, h .within, length-threads w) in
       let g : getD (threads-in w) i no-row ≡ thread-at w i = getD-tab (getD w 0 0) (thread-at w) i no-row l in
       record {
@@ -174,7 +175,7 @@ module _ (w : List ℕ) (x : ℕ) (p : Found) (e : p ≡ findIn (keys 21 w) x) w
       }
 
   pub missing : p ≡ Nothing → at (threads-in w) x ≡ none
-  missing q = let h : Gone (threads-in w) x = subst (Located no-row (threads-in w) x) q located-in in h .is
+  missing q = found-gone (threads-in w) x p located-in q .is
 
 module _ {w : List ℕ} {x i : ℕ} (s : Stands w x i) where
   pub stands-has : has (threads-in w) x ≡ true

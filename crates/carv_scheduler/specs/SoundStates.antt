@@ -1,6 +1,6 @@
 -- Question 1 of the current thread and of idle, by the arms of the code. Assumes nothing.
 use mathlib.Core.Path.{_≡_, sym, _∙_}
-use mathlib.Core.Bool.{true, false, not, false≢true, or-true}
+use mathlib.Core.Bool.{false, not, false≢true, or-true}
 use mathlib.Core.Option.{none}
 use mathlib.Core.List.{List}
 use Prim.Native.Nat.{ℕ}
@@ -9,8 +9,8 @@ use borrow.Author.Tests.{eq-eqb, ne-eqb}
 use Rattle.carv_area.specs.Table.{at, test}
 use Rattle.carv_objects.specs.SoundLaws.{either}
 use Rattle.carv_objects.specs.SoundWalk.{Tells}
-use Rattle.carv_scheduler.specs.Scheduler.{idle, ready, running, is, thread}
-use Rattle.carv_scheduler.specs.SoundLaws.{implied, implying}
+use Rattle.carv_board.specs.Scheduler.{idle, ready, running, is, thread}
+use Rattle.carv_board.specs.SoundLaws.{implied, implying}
 use Rattle.carv_scheduler.specs.Area.{threads-in}
 use Rattle.carv_scheduler.specs.SoundWalk.{it-at, Current, Idle}
 use Rattle.carv_scheduler.specs.SoundRows.{Stands, stands-has, stands-thread, missing-has}

@@ -11,18 +11,15 @@ use Rattle.carv_budget.specs.Laws.{first, second}
 use Rattle.carv_objects.specs.Sound.{all}
 use Rattle.carv_objects.specs.SoundLaws.{all-told, all-shown}
 use Rattle.carv_objects.specs.SoundWalk.{Tells}
-use Rattle.carv_scheduler.specs.declared.Thread.{Thread}
-use Rattle.carv_scheduler.specs.Scheduler.{Board, idle}
-use Rattle.carv_scheduler.specs.Sound.{member, implies, same, unpaid, thread-tests}
+use Rattle.carv_board.specs.declared.Thread.{Thread}
+use Rattle.carv_board.specs.Scheduler.{Board, idle, wait-listed}
+use Rattle.carv_board.specs.Sound.{member, implies, same, unpaid, thread-tests}
 use Rattle.carv_scheduler.specs.SoundWalk.{id-at, it-at, state-fits, wait-fits, budget-fits, space-fits, Tests, Fits}
 
 -- `wait_fits`
 module _ (s k n : ℕ) where
-  pub wait-low : s ≡ 4 → k < 1 → false ≡ wait-fits s k n
-  wait-low e h = rw (eq-eqb s 4 e, lt-leb 1 k h)
-
-  pub wait-high : s ≡ 4 → 1 ≤ k → leb k 5 ≡ wait-fits s k n
-  wait-high e h = rw (eq-eqb s 4 e, le-leb 1 k h)
+  pub wait-blocked : s ≡ 4 → (r : Bool) → r ≡ wait-listed k → r ≡ wait-fits s k n
+  wait-blocked e r q = rw (eq-eqb s 4 e) q
 
   pub wait-kind : (s ≡ 4 → ⊥) → (k ≡ 0 → ⊥) → false ≡ wait-fits s k n
   wait-kind e h = rw (ne-eqb s 4 e, ne-eqb k 0 h)

@@ -11,9 +11,9 @@ use Rattle.carv_area.specs.Lists.{tab}
 use Rattle.carv_area.specs.Words.{words}
 use Rattle.carv_area.specs.Keys.{keys}
 use Rattle.carv_area.specs.Zero.{allZero}
-use Rattle.carv_scheduler.specs.declared.Thread.{Thread}
-use Rattle.carv_scheduler.specs.Scheduler.{idle, inactive, ready, running, is, cause-listed, thread, has}
-use Rattle.carv_scheduler.specs.Sound.{member, distinct, each, implies, same, unpaid}
+use Rattle.carv_board.specs.declared.Thread.{Thread}
+use Rattle.carv_board.specs.Scheduler.{idle, inactive, ready, running, is, cause-listed, thread, has}
+use Rattle.carv_board.specs.Sound.{member, distinct, each, implies, same, unpaid}
 use Rattle.carv_scheduler.specs.Area.{head, threads-part, queue-part, exits-part, thread-at, threads-in, exits-in, behind}
 
 -- the id and the record of the thread at place i, and the id at place j of the queue
@@ -126,9 +126,8 @@ pub record SoundTables (w v : List ℕ) (c : ℕ) : Type 0 where
   pub threads : SoundThreads w v c
 
 -- the cause of exit k is a listed one
-pub record Listed (u : List ℕ) (k : ℕ) : Type 0 where
-  pub low : 1 ≤ getD u (k * 2 + 2) 0
-  pub high : getD u (k * 2 + 2) 0 ≤ 2
+abbrev pub Listed : List ℕ → ℕ → Type 0
+Listed u k = cause-listed (getD u (k * 2 + 2) 0) ≡ true
 
 -- the exits are in order, and there are zeros behind them
 pub record SoundExits (u : List ℕ) : Type 0 where

@@ -1,32 +1,30 @@
 -- `tick` in the area: the current thread's run tick and its charge, and then the waking. Assumes nothing.
 use Prim.Native.Nat.{ℕ, _*_, _≤_, _<_}
-use native.Mathlib.Omega.{arith}
 use mathlib.Core.Path.{_≡_, refl, sym, ap, _∙_}
 use mathlib.Core.Bool.{Bool, true, false, cond, false≢true}
 use mathlib.Core.Option.{none}
 use mathlib.Core.List.{List, [], _∷_}
 use lib.Dec.{eqb}
-use lib.ListN.{length, getD, set}
+use lib.ListN.{getD, set}
 use borrow.Author.Tests.{eqb-true, eq-eqb, ne-eqb, le-leb, lt-leb}
 use Rattle.carv_area.specs.Table.{Row, alter, pick}
 use Rattle.carv_area.specs.Lookup.{Here, Gone}
-use Rattle.carv_area.specs.Parts.{part, length-part}
 use Rattle.carv_objects.specs.Answer.{refuse, accept}
 use Rattle.carv_objects.specs.Registry.{Registry, charge-most}
-use Rattle.carv_scheduler.specs.declared.Payer.{Payer}
-use Rattle.carv_scheduler.specs.declared.Thread.{Thread}
+use Rattle.carv_board.specs.declared.Payer.{Payer}
+use Rattle.carv_board.specs.declared.Thread.{Thread}
 use Rattle.carv_scheduler.specs.declared.Answer.the-variants.{Done}
-use Rattle.carv_scheduler.specs.Scheduler.{Board, tick-ns, is-due, found, thread, has, ticked, with-registry, with-threads, charge-tick, wake-all, tick}
-use Rattle.carv_scheduler.specs.SoundFacts.{Sound}
-use Rattle.carv_scheduler.specs.Steps.{registry-kept, charge-tick-kept, ticked-kept}
-use Rattle.carv_scheduler.specs.Kept.{tick-kept}
+use Rattle.carv_board.specs.Scheduler.{Board, tick-ns, is-due, thread, has, ticked, with-registry, with-threads, charge-tick, wake-all, tick}
+use Rattle.carv_board.specs.SoundFacts.{Sound}
+use Rattle.carv_board.specs.Steps.{registry-kept, charge-tick-kept, ticked-kept}
+use Rattle.carv_board.specs.Kept.{tick-kept}
 use Rattle.carv_scheduler.specs.Area.{decode, sound-area, Is, Serves}
 use Rattle.carv_scheduler.specs.Rows.{row, no-row}
 use Rattle.carv_scheduler.specs.Formed.{Leaves, leaves-as}
 use Rattle.carv_scheduler.specs.AreaSteps as area
 use Rattle.carv_scheduler.specs.AreaLaws.{area-sound, area-formed, is-area}
 use Rattle.carv_scheduler.specs.Calls.{answered}
-use Rattle.carv_scheduler.specs.Waking.{thread-here}
+use Rattle.carv_scheduler.specs.Places.{here-thread, gone-has}
 
 -- the board b after the current thread's tick at this time, before the waking
 unfoldable pub accounted : (time : ℕ) → Board → Board
@@ -52,9 +50,6 @@ module _ (n : ℕ) (b : Board) where
   unfolding accounted
   tick-done h = rw (le-leb n 18_446_744_073_709 h, picked-ticked n (b .current) (b .threads))
 
-pub length-registry : (a : List ℕ) → length a ≡ 68_144 → length (part 0 45_072 a) ≡ 45_072
-length-registry a z = length-part 0 45_072 a (omega arith)
-
 -- the charge, with and without a budget
 module _ (time : ℕ) (p : Payer) (r : Registry) where
   charge-none : p .is ≡ 0 → r ≡ charge-tick time p r
@@ -71,7 +66,7 @@ module _ (time : ℕ) (b : Board) (x i : ℕ) (ex : x ≡ b .current) (h : Here 
       ∙ ap (λ (y : ℕ). alter y ticked (b .threads)) ex
 
   payer-is : getD (b .threads) i no-row .it .budget ≡ thread (b .threads) (b .current) .budget
-  payer-is = sym (ap (λ (y : ℕ). thread (b .threads) y .budget) (sym ex) ∙ ap (λ (t : Thread). t .budget) (thread-here b x i h))
+  payer-is = sym (ap (λ (y : ℕ). thread (b .threads) y .budget) (sym ex) ∙ ap (λ (t : Thread). t .budget) (here-thread (b .threads) x i h))
 
   free-is : getD (b .threads) i no-row .it .budget .is ≡ 0
       → area.with-threads (set (b .threads) i (row (getD (b .threads) i no-row .id) (ticked (getD (b .threads) i no-row .it)))) b ≡ accounted time b
@@ -102,7 +97,7 @@ accounted-kept time b o =
 module _ (time : ℕ) (a : List ℕ) (s : sound-area a ≡ true) (x : ℕ) (ex : x ≡ decode a .current) where
   -- the current thread is there
   pub account-gone : Gone (decode a .threads) x → Is a (accounted time (decode a))
-  account-gone g = absurd (false≢true (ap found (sym (g .is)) ∙ ap (has (decode a .threads)) ex ∙ area-sound a s .current-here))
+  account-gone g = absurd (false≢true (sym (gone-has (decode a .threads) x g) ∙ ap (has (decode a .threads)) ex ∙ area-sound a s .current-here))
 
   module _ (i : ℕ) (h : Here no-row (decode a .threads) x i) (p : ℕ) (ep : p ≡ getD (decode a .threads) i no-row .it .budget .is)
       (a₁ : List ℕ) (l : Leaves a₁ (area.with-threads (set (decode a .threads) i (row (getD (decode a .threads) i no-row .id) (ticked (getD (decode a .threads) i no-row .it)))) (decode a))) where

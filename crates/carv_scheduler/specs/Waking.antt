@@ -1,31 +1,27 @@
 -- `wake` in the area, and the waking of the sleepers that are due, by places. Assumes nothing.
-use Prim.Native.Nat.{ℕ, zero, suc, _+_, _^_, _≤_, _<_}
-use native.Mathlib.Nat.{not-suc-le-zero, le-of-suc-le-suc}
+use Prim.Native.Nat.{ℕ, suc, _+_, _^_, _≤_, _<_}
 use native.Mathlib.Numerals.{add-one}
 use native.Mathlib.Omega.{arith}
 use mathlib.Core.Path.{_≡_, refl, sym, ap, _∙_, subst}
 use mathlib.Core.Bool.{Bool, true, false, cond}
 use mathlib.Core.Option.{none}
 use mathlib.Core.List.{List, [], _∷_, _++_}
-use lib.Dec.{eqb}
 use lib.ListN.{length, getD, set, drop, length-set, drop-of-length-le}
 use lib.Seq.{drop-cons, drop-set-lt}
 use borrow.Author.Tests.{eq-eqb, ne-eqb, le-leb, lt-leb}
 use Rattle.carv_area.specs.Table.{Row, alter, pick, test, Rising}
-use Rattle.carv_area.specs.Rows.{removeAt}
-use Rattle.carv_area.specs.Lookup.{Here, Gone, Located}
-use Rattle.carv_area.specs.declared.Found.{Found}
-use Rattle.carv_area.specs.declared.Found.the-variants.{At, Nothing}
+use Rattle.carv_area.specs.Lookup.{Here, Gone}
 use Rattle.carv_budget.specs.Laws.{first}
 use Rattle.carv_objects.specs.Answer.{refuse, accept}
-use Rattle.carv_scheduler.specs.declared.Results.{Results}
-use Rattle.carv_scheduler.specs.declared.Thread.{Thread}
+use Rattle.carv_board.specs.declared.Results.{Results}
+use Rattle.carv_board.specs.declared.Thread.{Thread}
 use Rattle.carv_scheduler.specs.declared.Answer.the-variants.{Done, Refused}
-use Rattle.carv_scheduler.specs.Scheduler.{Board, Answers, ready, blocked, is, is-due, results, or-fresh, found, thread, has, woken, with-threads, join, wake, wake-all}
-use Rattle.carv_scheduler.specs.Steps.{other-state, apart}
-use Rattle.carv_scheduler.specs.Kept.{wake-kept}
+use Rattle.carv_board.specs.Scheduler.{Board, Answers, ready, blocked, is, is-due, results, thread, has, woken, with-threads, join, wake, wake-all}
+use Rattle.carv_board.specs.Steps.{other-state, apart}
+use Rattle.carv_board.specs.Kept.{wake-kept}
 use Rattle.carv_scheduler.specs.Area.{decode, sound-area, Is, Serves}
 use Rattle.carv_scheduler.specs.Rows.{row, no-row}
+use Rattle.carv_scheduler.specs.Places.{here-at, here-has, here-thread, gone-has}
 use Rattle.carv_scheduler.specs.Formed.{Leaves, leaves-as}
 use Rattle.carv_scheduler.specs.AreaSteps as area
 use Rattle.carv_scheduler.specs.AreaLaws.{area-sound, is-area}
@@ -44,54 +40,16 @@ module _ (i : ℕ) (r : Results) (b : Board) where
     pub wake-done : is blocked (thread (b .threads) i) ≡ true → wake i r b ≡ accept none (with-threads (alter i (woken r) (b .threads)) (join (b .queue) i) b) b
     wake-done s = rw (h, s)
 
--- the row at place i of rising ids is the one with its id
-module _ {A : Type 0} (d : Row A) where
-  above : (m : List (Row A)) (l n i : ℕ) → Rising l n m → i < length m → l ≤ getD m i d .id
-  above [] l n i u h = absurd (not-suc-le-zero h)
-  above (r ∷ m) l n zero u h = u .0
-  above (r ∷ m) l n (suc i) u h = omega (arith, u .0, above m (suc (r .id)) n i (u .1) (le-of-suc-le-suc h))
-
-  pub here-at : (m : List (Row A)) (l n i : ℕ) → Rising l n m → i < length m → Here d m (getD m i d .id) i
-  unfolding removeAt
-  here-at [] l n i u h = absurd (not-suc-le-zero h)
-  here-at (r ∷ m) l n zero u h =
-      let e : eqb (r .id) (r .id) ≡ true = eq-eqb (r .id) (r .id) refl in
-      record { within = h; same = refl; is = rw e; changed = λ f. rw e; erased = rw e }
-  here-at (r ∷ m) l n (suc i) u h =
-      let k = here-at m (suc (r .id)) n i (u .1) (le-of-suc-le-suc h) in
-      let e : eqb (r .id) (getD m i d .id) ≡ false = ne-eqb (r .id) (getD m i d .id) (λ q. omega (arith, above m (suc (r .id)) n i (u .1) (le-of-suc-le-suc h))) in
-      record {
-        within = h;
-        same = refl;
-        is = rw e (k .is);
-        changed = λ f. rw e (ap (λ (q : List (Row A)). r ∷ q) (k .changed f));
-        erased = rw e (ap (λ (q : List (Row A)). r ∷ q) (k .erased));
-      }
-
--- the thread x stands at place i
+-- the thread x stands at place i, and is Blocked: what the two writes leave
 module _ (b : Board) (x i : ℕ) (h : Here no-row (b .threads) x i) where
-  pub has-here : has (b .threads) x ≡ true
-  has-here = ap found (h .is)
-
-  pub thread-here : thread (b .threads) x ≡ getD (b .threads) i no-row .it
-  thread-here = ap or-fresh (h .is)
-
-  -- and is Blocked: what the two writes leave
   pub woken-is : (r : Results) → is blocked (getD (b .threads) i no-row .it) ≡ true
       → area.with-queue (b .queue ++ (x ∷ [])) (area.with-threads (set (b .threads) i (row (getD (b .threads) i no-row .id) (woken r (getD (b .threads) i no-row .it)))) b)
       ≡ wake x r b .now
   woken-is r w =
-      let s : is blocked (thread (b .threads) x) ≡ true = rw thread-here w in
+      let s : is blocked (thread (b .threads) x) ≡ true = rw (here-thread (b .threads) x i h) w in
       ap (λ (m : List (Row Thread)). with-threads m (b .queue ++ (x ∷ [])) b)
       (ap (λ (y : ℕ). set (b .threads) i (row y (woken r (getD (b .threads) i no-row .it)))) (h .same) ∙ sym (h .changed (woken r)))
-      ∙ sym (ap (λ (z : Answers). z .now) (wake-done x r b has-here s))
-
--- a place that was found
-pub found-here : (m : List (Row Thread)) (x : ℕ) (p : Found) → Located no-row m x p → (i : ℕ) → p ≡ At i → Here no-row m x i
-found-here m x p l i e = subst (Located no-row m x) e l
-
-pub found-gone : (m : List (Row Thread)) (x : ℕ) (p : Found) → Located no-row m x p → p ≡ Nothing → Gone m x
-found-gone m x p l e = subst (Located no-row m x) e l
+      ∙ sym (ap (λ (z : Answers). z .now) (wake-done x r b (here-has (b .threads) x i h) s))
 
 -- `wake_thread`
 module _ (a : List ℕ) (s : sound-area a ≡ true) (x i : ℕ) (h : Here no-row (decode a .threads) x i) (r : Results) (w : is blocked (getD (decode a .threads) i no-row .it) ≡ true)
@@ -99,9 +57,9 @@ module _ (a : List ℕ) (s : sound-area a ≡ true) (x i : ℕ) (h : Here no-row
   pub wake-room : length (decode a₁ .queue) < 127
   wake-room =
       let o = area-sound a s in
-      let b : is blocked (thread (decode a .threads) x) ≡ true = ap (is blocked) (thread-here (decode a) x i h) ∙ w in
+      let b : is blocked (thread (decode a .threads) x) ≡ true = ap (is blocked) (here-thread (decode a .threads) x i h) ∙ w in
       subst (λ (q : List ℕ). length q < 127) (sym (ap (λ (c : Board). c .queue) (l .is)))
-      (queue-room (decode a) o x (has-here (decode a) x i h) (other-state blocked ready (thread (decode a .threads) x) b refl) (apart (decode a) o x blocked b refl refl))
+      (queue-room (decode a) o x (here-has (decode a .threads) x i h) (other-state blocked ready (thread (decode a .threads) x) b refl) (apart (decode a) o x blocked b refl refl))
 
   pub wakes : (a₂ : List ℕ) → Leaves a₂ (area.with-queue (decode a₁ .queue ++ (x ∷ [])) (decode a₁)) → Is a₂ (wake x r (decode a) .now)
   wakes a₂ m =
@@ -116,17 +74,17 @@ here-blocked m i k e h = eq-eqb (getD m i no-row .it .state) 4 (sym e ∙ h)
 -- `wake`
 module _ (a : List ℕ) (s : sound-area a ≡ true) (x : ℕ) (r : Results) where
   pub wake-gone : Gone (decode a .threads) x → Serves (wake x r) a (Refused 7) a
-  wake-gone g = refused (wake x r) a s 7 (wake-missing x r (decode a) (ap found (g .is)))
+  wake-gone g = refused (wake x r) a s 7 (wake-missing x r (decode a) (gone-has (decode a .threads) x g))
 
   module _ (i : ℕ) (h : Here no-row (decode a .threads) x i) where
     pub wake-other : (k : ℕ) → k ≡ getD (decode a .threads) i no-row .it .state → (k ≡ 4 → ⊥) → Serves (wake x r) a (Refused 8) a
     wake-other k e n =
-        refused (wake x r) a s 8 (wake-state x r (decode a) (has-here (decode a) x i h)
-        (ap (is blocked) (thread-here (decode a) x i h) ∙ ne-eqb (getD (decode a .threads) i no-row .it .state) 4 (λ q. n (e ∙ q))))
+        refused (wake x r) a s 8 (wake-state x r (decode a) (here-has (decode a .threads) x i h)
+        (ap (is blocked) (here-thread (decode a .threads) x i h) ∙ ne-eqb (getD (decode a .threads) i no-row .it .state) 4 (λ q. n (e ∙ q))))
 
     pub wake-serves : is blocked (getD (decode a .threads) i no-row .it) ≡ true → (a₁ : List ℕ) → Is a₁ (wake x r (decode a) .now) → Serves (wake x r) a Done a₁
     wake-serves w a₁ k =
-        let z = wake-done x r (decode a) (has-here (decode a) x i h) (ap (is blocked) (thread-here (decode a) x i h) ∙ w) in
+        let z = wake-done x r (decode a) (here-has (decode a .threads) x i h) (ap (is blocked) (here-thread (decode a .threads) x i h) ∙ w) in
         record { number = sym (ap (λ (y : Answers). y .number) z); value = sym (ap (λ (y : Answers). y .value) z); area = k }
 
 -- the thread at place i wakes if it is due at tick n

@@ -14,9 +14,9 @@ use Rattle.carv_area.specs.Keys.{after}
 use Rattle.carv_area.specs.declared.Found.{Found}
 use Rattle.carv_area.specs.declared.Found.the-variants.{At, Nothing}
 use Rattle.carv_objects.specs.Registry.{Registry}
-use Rattle.carv_scheduler.specs.declared.Thread.{Thread}
-use Rattle.carv_scheduler.specs.Scheduler.{Choice, idle, thread, renew-for, pass-over, choose}
-use Rattle.carv_scheduler.specs.Switching.{eligible}
+use Rattle.carv_board.specs.declared.Thread.{Thread}
+use Rattle.carv_board.specs.Scheduler.{Choice, idle, thread, renew-for, pass-over, choose}
+use Rattle.carv_board.specs.Switching.{eligible}
 
 -- where the walk ends in the queue, and the registry then
 pub record Walked : Type 0 where

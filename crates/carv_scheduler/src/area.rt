@@ -1,29 +1,48 @@
 // The board's area: its parts, each lent to one function of carv_area or of the rows. docs/LAYOUT.md has the layout.
-use crate::Thread;
 use crate::rows;
 use carv_area::Found;
+use carv_board::Results;
+use carv_board::Thread;
+use carv_board::Wait;
 ghost use mathlib.Core.Path.{_≡_};
 ghost use mathlib.Core.List.{[], _∷_, _++_};
-ghost use Prim.Native.Nat.{_+_, _*_, _≤_, _<_};
+ghost use Prim.Native.Nat.{_<_};
 ghost use lib.ListN.{length, getD, set};
 ghost use Rattle.carv_area.specs.Table.{put};
 ghost use Rattle.carv_area.specs.Rows.{removeAt};
 ghost use Rattle.carv_area.specs.Lookup.{Located};
-ghost use Rattle.carv_scheduler.specs.Area.{decode};
+ghost use Rattle.carv_board.specs.Scheduler.{woken, ticked};
+ghost use Rattle.carv_scheduler.specs.Area.{thread-fields, decode};
 ghost use Rattle.carv_scheduler.specs.Rows.{row, no-row};
 ghost use Rattle.carv_scheduler.specs.Formed.{WellFormed, Leaves};
+ghost use Rattle.carv_scheduler.specs.RowWords.{with-state};
 ghost use Rattle.carv_scheduler.specs.AreaSteps.{with-head, with-threads, with-queue, Placed, New};
 
-// Where the parts start: the registry stands first.
-const HEAD: usize = 45_072;
+// Where the parts start, behind the registry, and where the last one ends.
+pub const HEAD: usize = 45_072;
 
-const THREADS: usize = 45_088;
+pub const THREADS: usize = 45_088;
 
-const QUEUE: usize = 66_600;
+pub const QUEUE: usize = 66_600;
 
-const EXITS: usize = 67_624;
+pub const EXITS: usize = 67_624;
 
 pub const BYTES: usize = 68_144;
+
+// The words of a record that are read one by one, from its id on.
+pub const STATE: usize = 1;
+
+pub const WAIT: usize = 2;
+
+pub const WAIT_NUMBER: usize = 3;
+
+pub const PAYER: usize = 4;
+
+pub const PAYER_ID: usize = 5;
+
+pub const SPACE: usize = 6;
+
+pub const ROOT: usize = 9;
 
 // The current thread.
 pub fn current(a: &[u8]) -> u64
@@ -62,7 +81,7 @@ pub fn find_thread(a: &[u8], id: u64) -> Found
     requires { ⌜ WellFormed (now a) ⌝ }
     ensures { λ r. ⌜ Located no-row (decode (now (a .entry)) .threads) id r ⌝ }
 {
-    carv_area::find(&a[THREADS..QUEUE], 21, id)
+    carv_area::find(&a[THREADS..QUEUE], rows::ROW, id)
 }
 
 // The same, where the place guess is tried first.
@@ -70,7 +89,7 @@ pub fn find_thread_near(a: &[u8], id: u64, guess: usize) -> Found
     requires { ⌜ WellFormed (now a) ⌝ }
     ensures { λ r. ⌜ Located no-row (decode (now (a .entry)) .threads) id r ⌝ }
 {
-    carv_area::find_near(&a[THREADS..QUEUE], 21, id, guess)
+    carv_area::find_near(&a[THREADS..QUEUE], rows::ROW, id, guess)
 }
 
 // The id of the thread at place i.
@@ -79,7 +98,7 @@ pub fn thread_id(a: &[u8], i: usize) -> u64
     requires { ⌜ i < length (decode (now a) .threads) ⌝ }
     ensures { λ r. ⌜ r ≡ getD (decode (now (a .entry)) .threads) i no-row .id ⌝ }
 {
-    carv_area::get(&a[THREADS..QUEUE], i * 21 + 1)
+    carv_area::get(&a[THREADS..QUEUE], i * rows::ROW + 1)
 }
 
 // The record of the thread at place i.
@@ -100,12 +119,48 @@ pub fn set_thread(a: &mut [u8], i: usize, id: u64, t: Thread)
     rows::write_thread(&mut a[THREADS..QUEUE], i, id, t)
 }
 
+// Word c of the record of the thread at place i, from its id on.
+pub fn thread_word(a: &[u8], i: usize, c: usize) -> u64
+    requires { ⌜ WellFormed (now a) ⌝ }
+    requires { ⌜ (i < length (decode (now a) .threads)) × (c < 21) ⌝ }
+    ensures { λ r. ⌜ r ≡ getD (thread-fields (getD (decode (now (a .entry)) .threads) i no-row)) c 0 ⌝ }
+{
+    carv_area::get(&a[THREADS..QUEUE], i * rows::ROW + 1 + c)
+}
+
+// The thread at place i has this state and wait.
+pub fn set_state(a: &mut [u8], i: usize, state: u64, wait: Wait)
+    requires { ⌜ WellFormed (now a) ⌝ }
+    requires { ⌜ i < length (decode (now a) .threads) ⌝ }
+    ensures { λ _. ⌜ Leaves (now (a .exit)) (with-threads (set (decode (now (a .entry)) .threads) i (with-state state wait (getD (decode (now (a .entry)) .threads) i no-row))) (decode (now (a .entry)))) ⌝ }
+{
+    rows::write_state(&mut a[THREADS..QUEUE], i, state, wait)
+}
+
+// The thread at place i is Ready, waits for nothing and has these results.
+pub fn set_woken(a: &mut [u8], i: usize, results: Results)
+    requires { ⌜ WellFormed (now a) ⌝ }
+    requires { ⌜ i < length (decode (now a) .threads) ⌝ }
+    ensures { λ _. ⌜ Leaves (now (a .exit)) (with-threads (set (decode (now (a .entry)) .threads) i (row (getD (decode (now (a .entry)) .threads) i no-row .id) (woken results (getD (decode (now (a .entry)) .threads) i no-row .it)))) (decode (now (a .entry)))) ⌝ }
+{
+    rows::write_woken(&mut a[THREADS..QUEUE], i, results)
+}
+
+// The thread at place i has run a tick more.
+pub fn add_tick(a: &mut [u8], i: usize)
+    requires { ⌜ WellFormed (now a) ⌝ }
+    requires { ⌜ i < length (decode (now a) .threads) ⌝ }
+    ensures { λ _. ⌜ Leaves (now (a .exit)) (with-threads (set (decode (now (a .entry)) .threads) i (row (getD (decode (now (a .entry)) .threads) i no-row .id) (ticked (getD (decode (now (a .entry)) .threads) i no-row .it)))) (decode (now (a .entry)))) ⌝ }
+{
+    rows::write_ticked(&mut a[THREADS..QUEUE], i)
+}
+
 // How many threads have a lower id.
 fn thread_rank(a: &[u8], id: u64) -> usize
     requires { ⌜ WellFormed (now a) ⌝ }
     ensures { λ r. ⌜ Placed (decode (now (a .entry)) .threads) id r ⌝ }
 {
-    carv_area::rank(&a[THREADS..QUEUE], 21, id)
+    carv_area::rank(&a[THREADS..QUEUE], rows::ROW, id)
 }
 
 // A new thread at place i, which is its place by its id.
@@ -134,7 +189,7 @@ pub fn remove_thread(a: &mut [u8], i: usize)
     requires { ⌜ i < length (decode (now a) .threads) ⌝ }
     ensures { λ _. ⌜ Leaves (now (a .exit)) (with-threads (removeAt (decode (now (a .entry)) .threads) i) (decode (now (a .entry)))) ⌝ }
 {
-    carv_area::remove_row(&mut a[THREADS..QUEUE], 21, i)
+    carv_area::remove_row(&mut a[THREADS..QUEUE], rows::ROW, i)
 }
 
 // How long the ready queue is.

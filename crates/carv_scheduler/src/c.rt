@@ -1,22 +1,21 @@
 // The functions for C: the area and 20 answer words are lent, the number is returned, and the values of the answer stand in the
 // first answer words. specs/C.antt says which.
 use crate::Answer;
-use crate::Context;
-use crate::Results;
-use crate::Thread;
+use carv_board::Context;
+use carv_board::Results;
+use carv_board::Thread;
 use carv_budget::Account;
 ghost use mathlib.Core.Path.{_≡_};
-ghost use mathlib.Core.List.{[], _∷_};
 ghost use lib.ListN.{length};
 ghost use lib.Seq.{sets};
 ghost use Rattle.carv_objects.specs.Answer as registry;
-ghost use Rattle.carv_objects.specs.Registry.{create, insert, create-budget, charge-more, uncharge, remove, refill, charge-cpu, pays-for-anything, read-account, charge-of};
-ghost use Rattle.carv_scheduler.specs.Scheduler.{by-registry, create-user-thread, start, block-current, wake, is-blocked-on, kill, tick, plan, read-thread, read-current, read-switches, exit-of};
+ghost use Rattle.carv_objects.specs.Book as objects;
+ghost use Rattle.carv_board.specs.Book.{on-objects, create-user-thread, start, block-current, wake, is-blocked-on, kill, tick, plan, read-thread, read-current, read-switches, exit-of};
 ghost use Rattle.carv_scheduler.specs.Answer.{number};
 ghost use Rattle.carv_scheduler.specs.Area.{sound-area};
 ghost use Rattle.carv_scheduler.specs.Image.{Filled};
-ghost use Rattle.carv_scheduler.specs.Creating.{CreatesInC};
-ghost use Rattle.carv_scheduler.specs.C.{figures, record-words, registry-reported, reported, Called, Opens};
+ghost use Rattle.carv_scheduler.specs.Creating.{ExportedWithImage};
+ghost use Rattle.carv_scheduler.specs.C.{figures, record-words, registry-reported, reported, Exported, Opens};
 
 // How many answer words there are.
 const WORDS: usize = 20;
@@ -206,7 +205,7 @@ pub extern "C" fn carv_create_user_thread(
     image: &mut [u8],
     out: &mut [u64],
 ) -> u64
-    ensures { λ r. ⌜ CreatesInC (create-user-thread id budget stack) (now (area .entry)) (now (image .entry)) (now (out .entry)) r (now (area .exit)) (now (image .exit)) (now (out .exit)) ⌝ }
+    ensures { λ r. ⌜ ExportedWithImage (create-user-thread id budget stack) (now (area .entry)) (now (image .entry)) (now (out .entry)) r (now (area .exit)) (now (image .exit)) (now (out .exit)) ⌝ }
 {
     if out.len() != WORDS {
         return 1;
@@ -225,7 +224,7 @@ pub extern "C" fn carv_create(
     backing: bool,
     out: &mut [u64],
 ) -> u64
-    ensures { λ r. ⌜ Called (by-registry (create kind payer backing)) (now (area .entry)) (now (out .entry)) r (now (area .exit)) (now (out .exit)) ⌝ }
+    ensures { λ r. ⌜ Exported (on-objects (objects.create kind payer backing)) (now (area .entry)) (now (out .entry)) r (now (area .exit)) (now (out .exit)) ⌝ }
 {
     if out.len() != WORDS {
         return 1;
@@ -242,7 +241,7 @@ pub extern "C" fn carv_insert(
     bytes: u64,
     out: &mut [u64],
 ) -> u64
-    ensures { λ r. ⌜ Called (by-registry (insert kind payer bytes)) (now (area .entry)) (now (out .entry)) r (now (area .exit)) (now (out .exit)) ⌝ }
+    ensures { λ r. ⌜ Exported (on-objects (objects.insert kind payer bytes)) (now (area .entry)) (now (out .entry)) r (now (area .exit)) (now (out .exit)) ⌝ }
 {
     if out.len() != WORDS {
         return 1;
@@ -260,7 +259,7 @@ pub extern "C" fn carv_create_budget(
     time: u64,
     out: &mut [u64],
 ) -> u64
-    ensures { λ r. ⌜ Called (by-registry (create-budget parent cpu memory time)) (now (area .entry)) (now (out .entry)) r (now (area .exit)) (now (out .exit)) ⌝ }
+    ensures { λ r. ⌜ Exported (on-objects (objects.create-budget parent cpu memory time)) (now (area .entry)) (now (out .entry)) r (now (area .exit)) (now (out .exit)) ⌝ }
 {
     if out.len() != WORDS {
         return 1;
@@ -271,7 +270,7 @@ pub extern "C" fn carv_create_budget(
 
 #[no_mangle]
 pub extern "C" fn carv_charge_more(area: &mut [u8], id: u64, bytes: u64, out: &mut [u64]) -> u64
-    ensures { λ r. ⌜ Called (by-registry (charge-more id bytes)) (now (area .entry)) (now (out .entry)) r (now (area .exit)) (now (out .exit)) ⌝ }
+    ensures { λ r. ⌜ Exported (on-objects (objects.charge-more id bytes)) (now (area .entry)) (now (out .entry)) r (now (area .exit)) (now (out .exit)) ⌝ }
 {
     if out.len() != WORDS {
         return 1;
@@ -282,7 +281,7 @@ pub extern "C" fn carv_charge_more(area: &mut [u8], id: u64, bytes: u64, out: &m
 
 #[no_mangle]
 pub extern "C" fn carv_uncharge(area: &mut [u8], id: u64, bytes: u64, out: &mut [u64]) -> u64
-    ensures { λ r. ⌜ Called (by-registry (uncharge id bytes)) (now (area .entry)) (now (out .entry)) r (now (area .exit)) (now (out .exit)) ⌝ }
+    ensures { λ r. ⌜ Exported (on-objects (objects.uncharge id bytes)) (now (area .entry)) (now (out .entry)) r (now (area .exit)) (now (out .exit)) ⌝ }
 {
     if out.len() != WORDS {
         return 1;
@@ -293,7 +292,7 @@ pub extern "C" fn carv_uncharge(area: &mut [u8], id: u64, bytes: u64, out: &mut 
 
 #[no_mangle]
 pub extern "C" fn carv_remove(area: &mut [u8], id: u64, out: &mut [u64]) -> u64
-    ensures { λ r. ⌜ Called (by-registry (remove id)) (now (area .entry)) (now (out .entry)) r (now (area .exit)) (now (out .exit)) ⌝ }
+    ensures { λ r. ⌜ Exported (on-objects (objects.remove id)) (now (area .entry)) (now (out .entry)) r (now (area .exit)) (now (out .exit)) ⌝ }
 {
     if out.len() != WORDS {
         return 1;
@@ -304,7 +303,7 @@ pub extern "C" fn carv_remove(area: &mut [u8], id: u64, out: &mut [u64]) -> u64
 
 #[no_mangle]
 pub extern "C" fn carv_refill(area: &mut [u8], id: u64, time: u64, out: &mut [u64]) -> u64
-    ensures { λ r. ⌜ Called (by-registry (refill id time)) (now (area .entry)) (now (out .entry)) r (now (area .exit)) (now (out .exit)) ⌝ }
+    ensures { λ r. ⌜ Exported (on-objects (objects.refill id time)) (now (area .entry)) (now (out .entry)) r (now (area .exit)) (now (out .exit)) ⌝ }
 {
     if out.len() != WORDS {
         return 1;
@@ -321,7 +320,7 @@ pub extern "C" fn carv_charge_cpu(
     time: u64,
     out: &mut [u64],
 ) -> u64
-    ensures { λ r. ⌜ Called (by-registry (charge-cpu id ns time)) (now (area .entry)) (now (out .entry)) r (now (area .exit)) (now (out .exit)) ⌝ }
+    ensures { λ r. ⌜ Exported (on-objects (objects.charge-cpu id ns time)) (now (area .entry)) (now (out .entry)) r (now (area .exit)) (now (out .exit)) ⌝ }
 {
     if out.len() != WORDS {
         return 1;
@@ -332,7 +331,7 @@ pub extern "C" fn carv_charge_cpu(
 
 #[no_mangle]
 pub extern "C" fn carv_pays_for_anything(area: &[u8], id: u64, out: &mut [u64]) -> u64
-    ensures { λ r. ⌜ Called (by-registry (pays-for-anything id)) (now (area .entry)) (now (out .entry)) r (now (area .entry)) (now (out .exit)) ⌝ }
+    ensures { λ r. ⌜ Exported (on-objects (objects.pays-for-anything id)) (now (area .entry)) (now (out .entry)) r (now (area .entry)) (now (out .exit)) ⌝ }
 {
     if out.len() != WORDS {
         return 1;
@@ -343,7 +342,7 @@ pub extern "C" fn carv_pays_for_anything(area: &[u8], id: u64, out: &mut [u64]) 
 
 #[no_mangle]
 pub extern "C" fn carv_account(area: &[u8], id: u64, out: &mut [u64]) -> u64
-    ensures { λ r. ⌜ Called (by-registry (read-account id)) (now (area .entry)) (now (out .entry)) r (now (area .entry)) (now (out .exit)) ⌝ }
+    ensures { λ r. ⌜ Exported (on-objects (objects.read-account id)) (now (area .entry)) (now (out .entry)) r (now (area .entry)) (now (out .exit)) ⌝ }
 {
     if out.len() != WORDS {
         return 1;
@@ -354,7 +353,7 @@ pub extern "C" fn carv_account(area: &[u8], id: u64, out: &mut [u64]) -> u64
 
 #[no_mangle]
 pub extern "C" fn carv_charge_of(area: &[u8], id: u64, out: &mut [u64]) -> u64
-    ensures { λ r. ⌜ Called (by-registry (charge-of id)) (now (area .entry)) (now (out .entry)) r (now (area .entry)) (now (out .exit)) ⌝ }
+    ensures { λ r. ⌜ Exported (on-objects (objects.charge-of id)) (now (area .entry)) (now (out .entry)) r (now (area .entry)) (now (out .exit)) ⌝ }
 {
     if out.len() != WORDS {
         return 1;
@@ -379,7 +378,7 @@ pub extern "C" fn carv_start(
     ss: u64,
     out: &mut [u64],
 ) -> u64
-    ensures { λ r. ⌜ Called (start id space cspace root (record { rip = rip; rsp = rsp; rflags = rflags; rdi = rdi; rsi = rsi; cs = cs; ss = ss })) (now (area .entry)) (now (out .entry)) r (now (area .exit)) (now (out .exit)) ⌝ }
+    ensures { λ r. ⌜ Exported (start id space cspace root (record { rip = rip; rsp = rsp; rflags = rflags; rdi = rdi; rsi = rsi; cs = cs; ss = ss })) (now (area .entry)) (now (out .entry)) r (now (area .exit)) (now (out .exit)) ⌝ }
 {
     if out.len() != WORDS {
         return 1;
@@ -404,7 +403,7 @@ pub extern "C" fn carv_block_current(
     number: u64,
     out: &mut [u64],
 ) -> u64
-    ensures { λ r. ⌜ Called (block-current kind number) (now (area .entry)) (now (out .entry)) r (now (area .exit)) (now (out .exit)) ⌝ }
+    ensures { λ r. ⌜ Exported (block-current kind number) (now (area .entry)) (now (out .entry)) r (now (area .exit)) (now (out .exit)) ⌝ }
 {
     if out.len() != WORDS {
         return 1;
@@ -422,7 +421,7 @@ pub extern "C" fn carv_wake(
     third: u64,
     out: &mut [u64],
 ) -> u64
-    ensures { λ r. ⌜ Called (wake id (record { first = first; second = second; third = third })) (now (area .entry)) (now (out .entry)) r (now (area .exit)) (now (out .exit)) ⌝ }
+    ensures { λ r. ⌜ Exported (wake id (record { first = first; second = second; third = third })) (now (area .entry)) (now (out .entry)) r (now (area .exit)) (now (out .exit)) ⌝ }
 {
     if out.len() != WORDS {
         return 1;
@@ -444,7 +443,7 @@ pub extern "C" fn carv_is_blocked_on(
     number: u64,
     out: &mut [u64],
 ) -> u64
-    ensures { λ r. ⌜ Called (is-blocked-on id kind number) (now (area .entry)) (now (out .entry)) r (now (area .entry)) (now (out .exit)) ⌝ }
+    ensures { λ r. ⌜ Exported (is-blocked-on id kind number) (now (area .entry)) (now (out .entry)) r (now (area .entry)) (now (out .exit)) ⌝ }
 {
     if out.len() != WORDS {
         return 1;
@@ -455,7 +454,7 @@ pub extern "C" fn carv_is_blocked_on(
 
 #[no_mangle]
 pub extern "C" fn carv_kill(area: &mut [u8], id: u64, cause: u64, out: &mut [u64]) -> u64
-    ensures { λ r. ⌜ Called (kill id cause) (now (area .entry)) (now (out .entry)) r (now (area .exit)) (now (out .exit)) ⌝ }
+    ensures { λ r. ⌜ Exported (kill id cause) (now (area .entry)) (now (out .entry)) r (now (area .exit)) (now (out .exit)) ⌝ }
 {
     if out.len() != WORDS {
         return 1;
@@ -466,7 +465,7 @@ pub extern "C" fn carv_kill(area: &mut [u8], id: u64, cause: u64, out: &mut [u64
 
 #[no_mangle]
 pub extern "C" fn carv_tick(area: &mut [u8], n: u64, out: &mut [u64]) -> u64
-    ensures { λ r. ⌜ Called (tick n) (now (area .entry)) (now (out .entry)) r (now (area .exit)) (now (out .exit)) ⌝ }
+    ensures { λ r. ⌜ Exported (tick n) (now (area .entry)) (now (out .entry)) r (now (area .exit)) (now (out .exit)) ⌝ }
 {
     if out.len() != WORDS {
         return 1;
@@ -477,7 +476,7 @@ pub extern "C" fn carv_tick(area: &mut [u8], n: u64, out: &mut [u64]) -> u64
 
 #[no_mangle]
 pub extern "C" fn carv_plan(area: &mut [u8], n: u64, out: &mut [u64]) -> u64
-    ensures { λ r. ⌜ Called (plan n) (now (area .entry)) (now (out .entry)) r (now (area .exit)) (now (out .exit)) ⌝ }
+    ensures { λ r. ⌜ Exported (plan n) (now (area .entry)) (now (out .entry)) r (now (area .exit)) (now (out .exit)) ⌝ }
 {
     if out.len() != WORDS {
         return 1;
@@ -488,7 +487,7 @@ pub extern "C" fn carv_plan(area: &mut [u8], n: u64, out: &mut [u64]) -> u64
 
 #[no_mangle]
 pub extern "C" fn carv_read_thread(area: &[u8], id: u64, out: &mut [u64]) -> u64
-    ensures { λ r. ⌜ Called (read-thread id) (now (area .entry)) (now (out .entry)) r (now (area .entry)) (now (out .exit)) ⌝ }
+    ensures { λ r. ⌜ Exported (read-thread id) (now (area .entry)) (now (out .entry)) r (now (area .entry)) (now (out .exit)) ⌝ }
 {
     if out.len() != WORDS {
         return 1;
@@ -499,7 +498,7 @@ pub extern "C" fn carv_read_thread(area: &[u8], id: u64, out: &mut [u64]) -> u64
 
 #[no_mangle]
 pub extern "C" fn carv_current(area: &[u8], out: &mut [u64]) -> u64
-    ensures { λ r. ⌜ Called (read-current) (now (area .entry)) (now (out .entry)) r (now (area .entry)) (now (out .exit)) ⌝ }
+    ensures { λ r. ⌜ Exported (read-current) (now (area .entry)) (now (out .entry)) r (now (area .entry)) (now (out .exit)) ⌝ }
 {
     if out.len() != WORDS {
         return 1;
@@ -510,7 +509,7 @@ pub extern "C" fn carv_current(area: &[u8], out: &mut [u64]) -> u64
 
 #[no_mangle]
 pub extern "C" fn carv_switches(area: &[u8], out: &mut [u64]) -> u64
-    ensures { λ r. ⌜ Called (read-switches) (now (area .entry)) (now (out .entry)) r (now (area .entry)) (now (out .exit)) ⌝ }
+    ensures { λ r. ⌜ Exported (read-switches) (now (area .entry)) (now (out .entry)) r (now (area .entry)) (now (out .exit)) ⌝ }
 {
     if out.len() != WORDS {
         return 1;
@@ -521,7 +520,7 @@ pub extern "C" fn carv_switches(area: &[u8], out: &mut [u64]) -> u64
 
 #[no_mangle]
 pub extern "C" fn carv_exit_of(area: &[u8], id: u64, out: &mut [u64]) -> u64
-    ensures { λ r. ⌜ Called (exit-of id) (now (area .entry)) (now (out .entry)) r (now (area .entry)) (now (out .exit)) ⌝ }
+    ensures { λ r. ⌜ Exported (exit-of id) (now (area .entry)) (now (out .entry)) r (now (area .entry)) (now (out .exit)) ⌝ }
 {
     if out.len() != WORDS {
         return 1;

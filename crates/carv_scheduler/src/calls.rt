@@ -1,13 +1,18 @@
 // The calls on a sound area: document 01's questions in their order, then the step. lib.rt asks question 1 in front of each.
 use crate::Answer;
-use crate::Context;
-use crate::Payer;
-use crate::Results;
-use crate::Space;
-use crate::Thread;
-use crate::Wait;
 use crate::area;
+use crate::numbers::BLOCKED;
+use crate::numbers::IDLE;
+use crate::numbers::INACTIVE;
+use crate::numbers::READY;
+use crate::numbers::RUNNING;
+use crate::rows;
 use carv_area::Found;
+use carv_board::Context;
+use carv_board::Payer;
+use carv_board::Space;
+use carv_board::Thread;
+use carv_board::Wait;
 ghost use mathlib.Core.Path.{_≡_};
 ghost use mathlib.Core.Bool.{true, _&&_};
 ghost use lib.Dec.{eqb};
@@ -15,24 +20,14 @@ ghost use Prim.Native.Nat.{_<_};
 ghost use lib.ListN.{length, getD};
 ghost use Rattle.carv_area.specs.Table.{alter};
 ghost use Rattle.carv_area.specs.Lookup.{Here};
-ghost use Rattle.carv_scheduler.specs.Scheduler.{wait-listed, payer, fresh, become, started, join, with-threads, inactive, is, blocked, has, create-user-thread, start, block-current, is-blocked-on, read-thread, read-current, read-switches};
+ghost use Rattle.carv_board.specs.Scheduler.{wait-listed, join, with-threads, is, blocked, has, create-user-thread, start, block-current, is-blocked-on, read-thread, read-current, read-switches};
 ghost use Rattle.carv_scheduler.specs.Area.{decode, sound-area, Serves};
 ghost use Rattle.carv_scheduler.specs.Creating.{Plain};
 ghost use Rattle.carv_scheduler.specs.Rows.{no-row};
 ghost use Rattle.carv_scheduler.specs.Formed.{WellFormed, Leaves};
 
-// States of a thread.
-const INACTIVE: u64 = 1;
-
-const READY: u64 = 2;
-
-const RUNNING: u64 = 3;
-
-const BLOCKED: u64 = 4;
-
-const IDLE: u64 = 18_446_744_073_709_551_615;
-
-fn is_wait_listed(kind: u64) -> bool
+// Is the kind one of the five that a thread can wait for?
+pub fn is_wait_listed(kind: u64) -> bool
     ensures { λ r. ⌜ r ≡ wait-listed kind ⌝ }
 {
     if kind < 1 {
@@ -42,38 +37,6 @@ fn is_wait_listed(kind: u64) -> bool
         return false;
     }
     true
-}
-
-// A new record, Inactive, that this budget pays for.
-fn fresh_thread(budget: u64) -> Thread
-    ensures { λ r. ⌜ r ≡ fresh inactive (payer budget) ⌝ }
-{
-    Thread {
-        state: INACTIVE,
-        wait: Wait { kind: 0, number: 0 },
-        budget: Payer { is: 1, id: budget },
-        place: Space {
-            is: 0,
-            space: 0,
-            cspace: 0,
-            root: 0,
-        },
-        context: Context {
-            rip: 0,
-            rsp: 0,
-            rflags: 514,
-            rdi: 0,
-            rsi: 0,
-            cs: 0,
-            ss: 0,
-        },
-        results: Results {
-            first: 0,
-            second: 0,
-            third: 0,
-        },
-        ticks: 0,
-    }
 }
 
 // Is there a thread with this id?
@@ -106,7 +69,11 @@ pub fn create_user_thread(a: &mut [u8], id: u64, budget: u64, stack: bool) -> An
     if !stack {
         return Answer::Refused(14);
     }
-    area::insert_thread(a, id, fresh_thread(budget));
+    area::insert_thread(
+        a,
+        id,
+        rows::fresh_thread(INACTIVE, Payer { is: 1, id: budget }),
+    );
     Answer::Done
 }
 
@@ -168,33 +135,6 @@ pub fn current_place(a: &[u8]) -> usize
     }
 }
 
-// The thread id, which stands at place i, has another state and wait.
-pub fn set_state(a: &mut [u8], i: usize, id: u64, state: u64, wait: Wait)
-    requires { ⌜ WellFormed (now a) ⌝ }
-    requires { ⌜ Here no-row (decode (now a) .threads) id i ⌝ }
-    ensures { λ _. ⌜ Leaves (now (a .exit)) (with-threads (alter id (become state wait) (decode (now (a .entry)) .threads)) (decode (now (a .entry)) .queue) (decode (now (a .entry)))) ⌝ }
-{
-    let t = area::thread_at(a, i);
-    let budget = t.budget;
-    let place = t.place;
-    let context = t.context;
-    let results = t.results;
-    area::set_thread(
-        a,
-        i,
-        id,
-        Thread {
-            state,
-            wait,
-            budget,
-            place,
-            context,
-            results,
-            ticks: t.ticks,
-        },
-    )
-}
-
 pub fn block_current(a: &mut [u8], kind: u64, number: u64) -> Answer
     requires { ⌜ sound-area (now a) ≡ true ⌝ }
     ensures { λ r. ⌜ Serves (block-current kind number) (now (a .entry)) r (now (a .exit)) ⌝ }
@@ -207,11 +147,10 @@ pub fn block_current(a: &mut [u8], kind: u64, number: u64) -> Answer
     if t.state != RUNNING {
         return Answer::Refused(8);
     }
-    let current = area::current(a);
-    if current == IDLE {
+    if area::current(a) == IDLE {
         return Answer::Refused(8);
     }
-    set_state(a, i, current, BLOCKED, Wait { kind, number });
+    area::set_state(a, i, BLOCKED, Wait { kind, number });
     Answer::Done
 }
 

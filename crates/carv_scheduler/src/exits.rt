@@ -1,7 +1,7 @@
 // The exit log: ends of threads from the oldest, in rows of 2 words. It holds 32.
 use crate::Answer;
-use crate::Exit;
 use crate::area;
+use carv_board::Exit;
 ghost use mathlib.Core.Path.{_≡_};
 ghost use mathlib.Core.Bool.{true};
 ghost use mathlib.Core.List.{[], _∷_, _++_};
@@ -9,15 +9,12 @@ ghost use Prim.Native.Nat.{_+_, _*_, _≤_, _<_};
 ghost use lib.ListN.{length, getD, drop};
 ghost use Rattle.carv_area.specs.Words.{words};
 ghost use Rattle.carv_area.specs.Stored.{Stored};
-ghost use Rattle.carv_scheduler.specs.Scheduler.{logged, exit-in, exit-of};
+ghost use Rattle.carv_board.specs.Scheduler.{logged, exit-in, exit-of};
 ghost use Rattle.carv_scheduler.specs.Area.{exit-fields, exit-at, exits-in, decode, sound-area, Serves};
 ghost use Rattle.carv_scheduler.specs.Rows.{no-exit};
 ghost use Rattle.carv_scheduler.specs.Formed.{WellFormed, Leaves};
 ghost use Rattle.carv_scheduler.specs.ExitSteps.{exit, with-exits, spared};
 ghost use Rattle.carv_scheduler.specs.ExitRun.{cause-of};
-
-// Where the log starts; it ends with the area.
-const EXITS: usize = 67_624;
 
 // The exit at place i of the log t.
 fn read_exit(t: &[u8], i: usize) -> Exit
@@ -46,7 +43,7 @@ pub fn exit_count(a: &[u8]) -> usize
     requires { ⌜ WellFormed (now a) ⌝ }
     ensures { λ r. ⌜ r ≡ length (decode (now (a .entry)) .exits) ⌝ }
 {
-    carv_area::get(&a[EXITS..area::BYTES], 0) as usize
+    carv_area::get(&a[area::EXITS..area::BYTES], 0) as usize
 }
 
 // The exit at place i.
@@ -55,7 +52,7 @@ pub fn exit_at(a: &[u8], i: usize) -> Exit
     requires { ⌜ i < length (decode (now a) .exits) ⌝ }
     ensures { λ r. ⌜ r ≡ getD (decode (now (a .entry)) .exits) i no-exit ⌝ }
 {
-    read_exit(&a[EXITS..area::BYTES], i)
+    read_exit(&a[area::EXITS..area::BYTES], i)
 }
 
 // The oldest exit goes.
@@ -64,7 +61,7 @@ fn drop_oldest(a: &mut [u8])
     requires { ⌜ 0 < length (decode (now a) .exits) ⌝ }
     ensures { λ _. ⌜ Leaves (now (a .exit)) (with-exits (drop 1 (decode (now (a .entry)) .exits)) (decode (now (a .entry)))) ⌝ }
 {
-    carv_area::remove_row(&mut a[EXITS..area::BYTES], 2, 0)
+    carv_area::remove_row(&mut a[area::EXITS..area::BYTES], 2, 0)
 }
 
 // An exit behind the others.
@@ -73,7 +70,7 @@ fn add_exit(a: &mut [u8], thread: u64, cause: u64)
     requires { ⌜ length (decode (now a) .exits) < 32 ⌝ }
     ensures { λ _. ⌜ Leaves (now (a .exit)) (with-exits (decode (now (a .entry)) .exits ++ (exit thread cause ∷ [])) (decode (now (a .entry)))) ⌝ }
 {
-    append_exit(&mut a[EXITS..area::BYTES], thread, cause)
+    append_exit(&mut a[area::EXITS..area::BYTES], thread, cause)
 }
 
 // Room for one more: of 32 exits the oldest goes.

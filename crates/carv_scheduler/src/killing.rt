@@ -1,31 +1,27 @@
 // The end of a thread: it leaves the table, or stays Dead where it is current, leaves the ready queue, and its end is logged.
 use crate::Answer;
-use crate::Thread;
-use crate::Wait;
 use crate::area;
 use crate::exits;
+use crate::numbers::BLOCKED;
+use crate::numbers::DEAD;
+use crate::numbers::IDLE;
 use carv_area::Found;
+use carv_board::Thread;
+use carv_board::Wait;
 ghost use mathlib.Core.Path.{_≡_};
 ghost use mathlib.Core.Bool.{true};
-ghost use lib.ListN.{getD};
 ghost use Rattle.carv_area.specs.Lookup.{Here};
 ghost use Rattle.carv_area.specs.Keys.{findIn};
-ghost use Rattle.carv_scheduler.specs.Scheduler.{cause-listed, without, kill};
-ghost use Rattle.carv_scheduler.specs.Sound.{distinct};
+ghost use Rattle.carv_board.specs.Scheduler.{cause-listed, without, kill};
+ghost use Rattle.carv_board.specs.Sound.{distinct};
 ghost use Rattle.carv_scheduler.specs.Area.{decode, sound-area, Serves};
 ghost use Rattle.carv_scheduler.specs.Rows.{no-row};
 ghost use Rattle.carv_scheduler.specs.Formed.{WellFormed, Leaves};
 ghost use Rattle.carv_scheduler.specs.AreaSteps.{with-threads, with-queue};
 ghost use Rattle.carv_scheduler.specs.KillSteps.{killed, wait-answer};
 
-const IDLE: u64 = 18_446_744_073_709_551_615;
-
-const BLOCKED: u64 = 4;
-
-const DEAD: u64 = 5;
-
 // Is the cause Destroyed or Faulted?
-fn is_cause(cause: u64) -> bool
+pub fn is_cause(cause: u64) -> bool
     ensures { λ r. ⌜ r ≡ cause-listed cause ⌝ }
 {
     if cause < 1 {
@@ -67,33 +63,13 @@ pub fn leave_queue(a: &mut [u8], id: u64)
 }
 
 // The thread at place i is Dead if it is current; any other is taken out.
-fn end_thread(a: &mut [u8], i: usize, id: u64, t: Thread)
+fn end_thread(a: &mut [u8], i: usize, id: u64)
     requires { ⌜ WellFormed (now a) ⌝ }
     requires { ⌜ Here no-row (decode (now a) .threads) id i ⌝ }
-    requires { ⌜ t ≡ getD (decode (now a) .threads) i no-row .it ⌝ }
     ensures { λ _. ⌜ Leaves (now (a .exit)) (with-threads (killed id (decode (now (a .entry)))) (decode (now (a .entry)))) ⌝ }
 {
     if id == area::current(a) {
-        let wait = Wait { kind: 0, number: 0 };
-        let budget = t.budget;
-        let place = t.place;
-        let context = t.context;
-        let results = t.results;
-        let ticks = t.ticks;
-        return area::set_thread(
-            a,
-            i,
-            id,
-            Thread {
-                state: DEAD,
-                wait,
-                budget,
-                place,
-                context,
-                results,
-                ticks,
-            },
-        );
+        return area::set_state(a, i, DEAD, Wait { kind: 0, number: 0 });
     }
     area::remove_thread(a, i)
 }
@@ -124,7 +100,7 @@ pub fn kill(a: &mut [u8], id: u64, cause: u64) -> Answer
         return Answer::Refused(7);
     };
     let t = area::thread_at(a, i);
-    end_thread(a, i, id, t);
+    end_thread(a, i, id);
     leave_queue(a, id);
     exits::log_exit(a, id, cause);
     wait_answer(t)

@@ -6,6 +6,7 @@ mod calls;
 mod exits;
 mod image;
 mod killing;
+mod numbers;
 mod opening;
 mod planning;
 mod registry;
@@ -13,64 +14,19 @@ mod rows;
 mod sound;
 mod ticking;
 
+use carv_board::Context;
+use carv_board::Results;
+use carv_board::Thread;
+use carv_board::Wait;
 pub use exits::exit_in;
 pub use image::write_image;
 pub use opening::open;
 pub use sound::is_sound;
 ghost use mathlib.Core.Path.{_≡_};
 ghost use Rattle.carv_objects.specs.Registry.{create, insert, create-budget, charge-more, uncharge, remove, refill, charge-cpu, pays-for-anything, read-account, charge-of};
-ghost use Rattle.carv_scheduler.specs.Scheduler.{by-registry, create-user-thread, start, block-current, wake, is-blocked-on, kill, tick, plan, read-thread, read-current, read-switches, exit-of};
+ghost use Rattle.carv_board.specs.Scheduler.{by-registry, create-user-thread, start, block-current, wake, is-blocked-on, kill, tick, plan, read-thread, read-current, read-switches, exit-of};
 ghost use Rattle.carv_scheduler.specs.Area.{Answered};
 ghost use Rattle.carv_scheduler.specs.Creating.{done, Plain, Created};
-
-// What a blocked thread waits for: kind 1 Send, 2 Recv, 3 Reply, 4 Notification, 5 Sleep; 0 where it waits for nothing.
-pub struct Wait {
-    pub kind: u64,
-    pub number: u64,
-}
-
-// A budget id, or none where is = 0.
-pub struct Payer {
-    pub is: u64,
-    pub id: u64,
-}
-
-// Where a started thread runs: address space, capability space and page-table root; none where is = 0.
-pub struct Space {
-    pub is: u64,
-    pub space: u64,
-    pub cspace: u64,
-    pub root: u64,
-}
-
-// The seven words of UserContext.
-pub struct Context {
-    pub rip: u64,
-    pub rsp: u64,
-    pub rflags: u64,
-    pub rdi: u64,
-    pub rsi: u64,
-    pub cs: u64,
-    pub ss: u64,
-}
-
-// The three result words that a blocked system call completes with.
-pub struct Results {
-    pub first: u64,
-    pub second: u64,
-    pub third: u64,
-}
-
-// A thread record. State: 1 Inactive, 2 Ready, 3 Running, 4 Blocked, 5 Dead.
-pub struct Thread {
-    pub state: u64,
-    pub wait: Wait,
-    pub budget: Payer,
-    pub place: Space,
-    pub context: Context,
-    pub results: Results,
-    pub ticks: u64,
-}
 
 // What a call answers: specs/Answer.antt gives document 01's number and the values.
 pub enum Answer {
@@ -88,12 +44,6 @@ pub enum Answer {
     Cause(u64),
     NoCause,
     Refused(u64),
-}
-
-// A thread's end. Cause: 1 Destroyed, 2 Faulted.
-pub struct Exit {
-    pub thread: u64,
-    pub cause: u64,
 }
 
 // Is it Answer::Done?
@@ -118,7 +68,7 @@ fn is_done(answer: Answer) -> bool
     }
 }
 
-// The same without the image.
+// A new thread, Inactive, without its register image.
 fn created(area: &mut [u8], id: u64, budget: u64, stack: bool) -> Answer
     ensures { λ r. ⌜ Answered (create-user-thread id budget stack) (now (area .entry)) r (now (area .exit)) × Plain r ⌝ }
 {

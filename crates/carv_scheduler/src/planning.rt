@@ -1,29 +1,25 @@
 // Planning: a running thread goes back to the queue, the first thread of the queue with time left is taken out, and it runs.
 use crate::Answer;
 use crate::area;
+use crate::numbers::DEAD;
+use crate::numbers::IDLE;
+use crate::numbers::LAST_TICK;
+use crate::numbers::READY;
+use crate::numbers::RUNNING;
+use crate::numbers::TICK;
 use carv_area::Found;
+use carv_board::Wait;
 ghost use mathlib.Core.Path.{_≡_};
 ghost use mathlib.Core.Bool.{true};
-ghost use Prim.Native.Nat.{_+_, _*_, _%_, _^_, _≤_, _<_};
-ghost use lib.ListN.{length, getD, set};
-ghost use Rattle.carv_area.specs.Words.{words};
+ghost use Prim.Native.Nat.{_+_, _%_, _^_, _<_};
+ghost use lib.ListN.{length, getD};
 ghost use Rattle.carv_area.specs.Lookup.{Located};
-ghost use Rattle.carv_scheduler.specs.Scheduler.{is, dead, thread, plan};
-ghost use Rattle.carv_scheduler.specs.Area.{thread-fields, decode, sound-area, Serves};
+ghost use Rattle.carv_board.specs.Scheduler.{is, dead, thread, plan};
+ghost use Rattle.carv_scheduler.specs.Area.{decode, sound-area, Serves};
 ghost use Rattle.carv_scheduler.specs.Rows.{no-row};
 ghost use Rattle.carv_scheduler.specs.Formed.{WellFormed, Leaves};
-ghost use Rattle.carv_scheduler.specs.AreaSteps.{with-threads, with-head};
-ghost use Rattle.carv_scheduler.specs.State.{with-state, with-words};
+ghost use Rattle.carv_scheduler.specs.AreaSteps.{with-head};
 ghost use Rattle.carv_scheduler.specs.Planning.{Renewing, guess-behind, Tests, Tries, Walks, Chooses, Backs, Values, Runs, Leaving, Switches};
-
-// Where the parts start, as in src/area.rt.
-const HEAD: usize = 45_072;
-
-const THREADS: usize = 45_088;
-
-const QUEUE: usize = 66_600;
-
-const IDLE: u64 = 0xffff_ffff_ffff_ffff;
 
 // The thread to run: its places in the queue and in the table, or idle.
 pub enum Next {
@@ -37,42 +33,12 @@ pub struct Chosen {
     pub at: Found,
 }
 
-// Word c of the record at place i.
-fn word_at(a: &[u8], i: usize, c: usize) -> u64
-    requires { ⌜ WellFormed (now a) ⌝ }
-    requires { ⌜ i < length (decode (now a) .threads) ⌝ }
-    requires { ⌜ c < 21 ⌝ }
-    ensures { λ r. ⌜ r ≡ getD (thread-fields (getD (decode (now (a .entry)) .threads) i no-row)) c 0 ⌝ }
-{
-    carv_area::get(&a[THREADS..QUEUE], i * 21 + (c + 1))
-}
-
-// The state of the record at place i of the table t, with no wait.
-fn write_state(t: &mut [u8], i: usize, state: u64)
-    requires { ⌜ (i * 21 + 21) * 8 + 8 ≤ length (now t) ⌝ }
-    ensures { λ _. ⌜ words (now (t .exit)) ≡ with-words (words (now (t .entry))) i state ⌝ }
-{
-    let o = i * 21;
-    carv_area::put(t, o + 2, state);
-    carv_area::put(t, o + 3, 0);
-    carv_area::put(t, o + 4, 0);
-}
-
-// The thread at place i has this state and no wait.
-fn set_state(a: &mut [u8], i: usize, state: u64)
-    requires { ⌜ WellFormed (now a) ⌝ }
-    requires { ⌜ i < length (decode (now a) .threads) ⌝ }
-    ensures { λ _. ⌜ Leaves (now (a .exit)) (with-threads (set (decode (now (a .entry)) .threads) i (with-state state (getD (decode (now (a .entry)) .threads) i no-row))) (decode (now (a .entry)))) ⌝ }
-{
-    write_state(&mut a[THREADS..QUEUE], i, state)
-}
-
 // Renews the budget id, if it is live. Has it CPU left then?
 fn renew(a: &mut [u8], id: u64, time: u64) -> bool
     requires { ⌜ WellFormed (now a) ⌝ }
     ensures { λ r. ⌜ Renewing time id (now (a .entry)) r (now (a .exit)) ⌝ }
 {
-    carv_objects::cpu::renew_and_test(&mut a[0..HEAD], id, time)
+    carv_objects::cpu::renew_and_test(&mut a[0..area::HEAD], id, time)
 }
 
 // Renews the budget of the thread at place i. Has it time left?
@@ -81,10 +47,10 @@ fn has_time(a: &mut [u8], i: usize, time: u64) -> bool
     requires { ⌜ i < length (decode (now a) .threads) ⌝ }
     ensures { λ r. ⌜ Tests time (getD (decode (now (a .entry)) .threads) i no-row .it .budget) (now (a .entry)) r (now (a .exit)) ⌝ }
 {
-    if word_at(a, i, 4) == 0 {
+    if area::thread_word(a, i, area::PAYER) == 0 {
         return true;
     }
-    let budget = word_at(a, i, 5);
+    let budget = area::thread_word(a, i, area::PAYER_ID);
     renew(a, budget, time)
 }
 
@@ -165,14 +131,14 @@ fn put_back(a: &mut [u8], old: u64) -> bool
     let Found::At(i) = area::find_thread(a, old) else {
         return false;
     };
-    let state = word_at(a, i, 1);
-    if state != 3 {
-        return state == 5;
+    let state = area::thread_word(a, i, area::STATE);
+    if state != RUNNING {
+        return state == DEAD;
     }
     if old == IDLE {
         return false;
     }
-    set_state(a, i, 2);
+    area::set_state(a, i, READY, Wait { kind: 0, number: 0 });
     area::queue_push(a, old);
     false
 }
@@ -189,10 +155,10 @@ fn switch_answer(a: &[u8], old: u64, id: u64, at: Found) -> Answer
     let Found::At(i) = at else {
         return Answer::SwitchToKernel(old, id);
     };
-    if word_at(a, i, 6) == 0 {
+    if area::thread_word(a, i, area::SPACE) == 0 {
         return Answer::SwitchToKernel(old, id);
     }
-    let root = word_at(a, i, 9);
+    let root = area::thread_word(a, i, area::ROOT);
     Answer::Switch(old, id, root)
 }
 
@@ -203,7 +169,7 @@ fn run(a: &mut [u8], id: u64, at: Found)
     ensures { λ _. ⌜ Runs id (now (a .entry)) (now (a .exit)) ⌝ }
 {
     match at {
-        Found::At(i) => set_state(a, i, 3),
+        Found::At(i) => area::set_state(a, i, RUNNING, Wait { kind: 0, number: 0 }),
         Found::Nothing => {}
     }
 }
@@ -255,10 +221,10 @@ pub fn plan(a: &mut [u8], n: u64) -> Answer
     requires { ⌜ sound-area (now a) ≡ true ⌝ }
     ensures { λ r. ⌜ Serves (plan n) (now (a .entry)) r (now (a .exit)) ⌝ }
 {
-    if n > 18_446_744_073_709 {
+    if n > LAST_TICK {
         return Answer::Refused(3);
     }
-    let time = n * 1_000_000;
+    let time = n * TICK;
     let old = area::current(a);
     let killed = put_back(a, old);
     let next = choose(a, time);

@@ -1,17 +1,54 @@
 // The thread table: one thread record in each row of 21 words.
-use crate::Context;
-use crate::Payer;
-use crate::Results;
-use crate::Space;
-use crate::Thread;
-use crate::Wait;
+use crate::numbers::READY;
+use carv_board::Context;
+use carv_board::Payer;
+use carv_board::Results;
+use carv_board::Space;
+use carv_board::Thread;
+use carv_board::Wait;
 ghost use mathlib.Core.Path.{_≡_};
-ghost use Prim.Native.Nat.{_+_, _*_, _≤_};
+ghost use Prim.Native.Nat.{_+_, _*_, _^_, _%_, _≤_};
 ghost use lib.ListN.{length, getD, set};
 ghost use Rattle.carv_area.specs.Words.{words};
 ghost use Rattle.carv_area.specs.Moves.{openRow};
+ghost use Rattle.carv_board.specs.Scheduler.{fresh};
 ghost use Rattle.carv_scheduler.specs.Area.{wait-at, payer-at, space-at, context-at, results-at, thread-at};
-ghost use Rattle.carv_scheduler.specs.Rows.{row, set-start, set-place, set-context, set-end, set-thread};
+ghost use Rattle.carv_scheduler.specs.Rows.{row, set-state, set-start, set-place, set-context, set-results, set-ticks, set-end, set-woken, set-thread};
+
+// How many words a row has.
+pub const ROW: usize = 21;
+
+// The record of a new thread.
+pub fn fresh_thread(state: u64, budget: Payer) -> Thread
+    ensures { λ r. ⌜ r ≡ fresh state budget ⌝ }
+{
+    Thread {
+        state,
+        wait: Wait { kind: 0, number: 0 },
+        budget,
+        place: Space {
+            is: 0,
+            space: 0,
+            cspace: 0,
+            root: 0,
+        },
+        context: Context {
+            rip: 0,
+            rsp: 0,
+            rflags: 514,
+            rdi: 0,
+            rsi: 0,
+            cs: 0,
+            ss: 0,
+        },
+        results: Results {
+            first: 0,
+            second: 0,
+            third: 0,
+        },
+        ticks: 0,
+    }
+}
 
 fn read_wait(t: &[u8], o: usize) -> Wait
     requires { ⌜ o * 8 + 16 ≤ length (now t) ⌝ }
@@ -88,7 +125,7 @@ pub fn read_thread(t: &[u8], i: usize) -> Thread
     requires { ⌜ (i * 21 + 21) * 8 + 8 ≤ length (now t) ⌝ }
     ensures { λ r. ⌜ r ≡ thread-at (words (now (t .entry))) i .it ⌝ }
 {
-    let o = i * 21;
+    let o = i * ROW;
     let state = carv_area::get(t, o + 2);
     let wait = read_wait(t, o + 3);
     let budget = read_payer(t, o + 5);
@@ -107,16 +144,25 @@ pub fn read_thread(t: &[u8], i: usize) -> Thread
     }
 }
 
+// The state and the wait of the record at place i.
+pub fn write_state(t: &mut [u8], i: usize, state: u64, wait: Wait)
+    requires { ⌜ (i * 21 + 21) * 8 + 8 ≤ length (now t) ⌝ }
+    ensures { λ _. ⌜ words (now (t .exit)) ≡ set-state (words (now (t .entry))) i state wait ⌝ }
+{
+    let o = i * ROW;
+    carv_area::put(t, o + 2, state);
+    carv_area::put(t, o + 3, wait.kind);
+    carv_area::put(t, o + 4, wait.number);
+}
+
 // The id, state, wait and budget of the record at place i.
 fn write_start(t: &mut [u8], i: usize, id: u64, state: u64, wait: Wait, budget: Payer)
     requires { ⌜ (i * 21 + 21) * 8 + 8 ≤ length (now t) ⌝ }
     ensures { λ _. ⌜ words (now (t .exit)) ≡ set-start (words (now (t .entry))) i id state wait budget ⌝ }
 {
-    let o = i * 21;
+    let o = i * ROW;
     carv_area::put(t, o + 1, id);
-    carv_area::put(t, o + 2, state);
-    carv_area::put(t, o + 3, wait.kind);
-    carv_area::put(t, o + 4, wait.number);
+    write_state(t, i, state, wait);
     carv_area::put(t, o + 5, budget.is);
     carv_area::put(t, o + 6, budget.id);
 }
@@ -125,7 +171,7 @@ fn write_place(t: &mut [u8], i: usize, place: Space)
     requires { ⌜ (i * 21 + 21) * 8 + 8 ≤ length (now t) ⌝ }
     ensures { λ _. ⌜ words (now (t .exit)) ≡ set-place (words (now (t .entry))) i place ⌝ }
 {
-    let o = i * 21;
+    let o = i * ROW;
     carv_area::put(t, o + 7, place.is);
     carv_area::put(t, o + 8, place.space);
     carv_area::put(t, o + 9, place.cspace);
@@ -136,7 +182,7 @@ fn write_context(t: &mut [u8], i: usize, context: Context)
     requires { ⌜ (i * 21 + 21) * 8 + 8 ≤ length (now t) ⌝ }
     ensures { λ _. ⌜ words (now (t .exit)) ≡ set-context (words (now (t .entry))) i context ⌝ }
 {
-    let o = i * 21;
+    let o = i * ROW;
     carv_area::put(t, o + 11, context.rip);
     carv_area::put(t, o + 12, context.rsp);
     carv_area::put(t, o + 13, context.rflags);
@@ -146,16 +192,23 @@ fn write_context(t: &mut [u8], i: usize, context: Context)
     carv_area::put(t, o + 17, context.ss);
 }
 
+fn write_results(t: &mut [u8], i: usize, results: Results)
+    requires { ⌜ (i * 21 + 21) * 8 + 8 ≤ length (now t) ⌝ }
+    ensures { λ _. ⌜ words (now (t .exit)) ≡ set-results (words (now (t .entry))) i results ⌝ }
+{
+    let o = i * ROW;
+    carv_area::put(t, o + 18, results.first);
+    carv_area::put(t, o + 19, results.second);
+    carv_area::put(t, o + 20, results.third);
+}
+
 // The results and run ticks of the record at place i.
 fn write_end(t: &mut [u8], i: usize, results: Results, ticks: u64)
     requires { ⌜ (i * 21 + 21) * 8 + 8 ≤ length (now t) ⌝ }
     ensures { λ _. ⌜ words (now (t .exit)) ≡ set-end (words (now (t .entry))) i results ticks ⌝ }
 {
-    let o = i * 21;
-    carv_area::put(t, o + 18, results.first);
-    carv_area::put(t, o + 19, results.second);
-    carv_area::put(t, o + 20, results.third);
-    carv_area::put(t, o + 21, ticks);
+    write_results(t, i, results);
+    carv_area::put(t, i * ROW + 21, ticks);
 }
 
 // The record under the id at place i of the table t.
@@ -174,13 +227,32 @@ pub fn write_thread(t: &mut [u8], i: usize, id: u64, thread: Thread)
     write_end(t, i, results, thread.ticks);
 }
 
+// The record at place i is Ready, waits for nothing and has these results.
+pub fn write_woken(t: &mut [u8], i: usize, results: Results)
+    requires { ⌜ (i * 21 + 21) * 8 + 8 ≤ length (now t) ⌝ }
+    ensures { λ _. ⌜ words (now (t .exit)) ≡ set-woken (words (now (t .entry))) i results ⌝ }
+{
+    write_state(t, i, READY, Wait { kind: 0, number: 0 });
+    write_results(t, i, results);
+}
+
+// The record at place i has run a tick more.
+pub fn write_ticked(t: &mut [u8], i: usize)
+    requires { ⌜ (i * 21 + 21) * 8 + 8 ≤ length (now t) ⌝ }
+    ensures { λ _. ⌜ words (now (t .exit)) ≡ set-ticks (words (now (t .entry))) i ((getD (words (now (t .entry))) (i * 21 + 21) 0 + 1) % 2 ^ 64) ⌝ }
+{
+    let o = i * ROW + 21;
+    let n = carv_area::get(t, o);
+    carv_area::put(t, o, std::num::wrapping_add_u64(n, 1));
+}
+
 // A row at place i of the table t, before the row that stood there, with this record.
 pub fn insert_thread(t: &mut [u8], i: usize, id: u64, thread: Thread)
     requires { ⌜ (getD (words (now t)) 0 0 * 21 + 21 + 1) * 8 ≤ length (now t) ⌝ }
     requires { ⌜ i ≤ getD (words (now t)) 0 0 ⌝ }
     ensures { λ _. ⌜ words (now (t .exit)) ≡ set-thread (openRow 21 i (getD (words (now (t .entry))) 0 0) (words (now (t .entry)))) i (row id thread) ⌝ }
 {
-    carv_area::insert_row(t, 21, i);
+    carv_area::insert_row(t, ROW, i);
     write_thread(t, i, id, thread)
 }
 

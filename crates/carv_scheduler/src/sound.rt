@@ -2,6 +2,16 @@
 // carv_objects asks it of the registry's part. Then three walks: over the threads' ids, which must rise; over the queue, which
 // marks the place of each id; and over the threads, each of which is tested by itself and by its mark.
 // specs/SoundWalk.antt says what the walks know, and specs/SoundBridge.antt that this is question 1.
+use crate::area;
+use crate::calls;
+use crate::killing;
+use crate::numbers::BLOCKED;
+use crate::numbers::DEAD;
+use crate::numbers::IDLE;
+use crate::numbers::INACTIVE;
+use crate::numbers::READY;
+use crate::numbers::RUNNING;
+use crate::rows;
 use carv_area::Found;
 ghost use mathlib.Core.Path.{_≡_};
 ghost use Prim.Native.Nat.{_+_, _*_, _≤_, _<_};
@@ -9,22 +19,16 @@ ghost use lib.ListN.{length, getD};
 ghost use Rattle.carv_area.specs.Words.{words};
 ghost use Rattle.carv_area.specs.Stored.{Keyed};
 ghost use Rattle.carv_objects.specs.SoundWalk.{Tells};
-ghost use Rattle.carv_scheduler.specs.Sound.{unpaid};
+ghost use Rattle.carv_board.specs.Sound.{unpaid};
 ghost use Rattle.carv_scheduler.specs.Area.{sound-area};
 ghost use Rattle.carv_scheduler.specs.SoundWalk.{wait-fits, budget-fits, space-fits, state-fits, Ordered, Fits, Fit, Current, Idle, Walk, Turned, Walked, SoundThreads, SoundTables, SoundExits, SoundParts};
-
-// The id of the idle thread.
-const IDLE: u64 = 18_446_744_073_709_551_615;
 
 // Has a thread in this state this wait?
 fn wait_fits(state: u64, kind: u64, number: u64) -> bool
     ensures { λ r. ⌜ r ≡ wait-fits state kind number ⌝ }
 {
-    if state == 4 {
-        if kind < 1 {
-            return false;
-        }
-        return kind <= 5;
+    if state == BLOCKED {
+        return calls::is_wait_listed(kind);
     }
     if kind != 0 {
         return false;
@@ -81,16 +85,16 @@ fn state_fits(state: u64, id: u64, current: u64, queued: bool) -> bool
     if state > 5 {
         return false;
     }
-    if state == 5 {
+    if state == DEAD {
         return id == current;
     }
     if id == IDLE {
         return true;
     }
-    if state == 2 {
+    if state == READY {
         return queued;
     }
-    if state == 3 {
+    if state == RUNNING {
         return id == current;
     }
     true
@@ -101,7 +105,7 @@ fn thread_fits(t: &[u8], i: usize, current: u64, queued: bool) -> bool
     requires { ⌜ i * 168 + 176 ≤ length (now t) ⌝ }
     ensures { λ r. ⌜ Tells r (Fits (words (now (t .entry))) current i queued) ⌝ }
 {
-    let o = i * 21;
+    let o = i * rows::ROW;
     let id = carv_area::get(t, o + 1);
     let state = carv_area::get(t, o + 2);
     if !state_fits(state, id, current, queued) {
@@ -157,7 +161,7 @@ fn ids_rise(t: &[u8], n: usize, places: &mut [usize]) -> bool
     places[(before % 251) as usize] = 0;
     let mut i = 1;
     while i < n {
-        let id = carv_area::get(t, i * 21 + 1);
+        let id = carv_area::get(t, i * rows::ROW + 1);
         if id <= before {
             return false;
         }
@@ -173,10 +177,10 @@ fn current_fits(t: &[u8], current: u64) -> bool
     requires { ⌜ Keyed 21 (now t) ⌝ }
     ensures { λ r. ⌜ Tells r (Current (words (now (t .entry))) current) ⌝ }
 {
-    let Found::At(i) = carv_area::find(t, 21, current) else {
+    let Found::At(i) = carv_area::find(t, rows::ROW, current) else {
         return false;
     };
-    carv_area::get(t, i * 21 + 2) != 1
+    carv_area::get(t, i * rows::ROW + 2) != INACTIVE
 }
 
 // Is idle there, Running, or Ready if it is not current?
@@ -184,14 +188,14 @@ fn idle_fits(t: &[u8], current: u64) -> bool
     requires { ⌜ Keyed 21 (now t) ⌝ }
     ensures { λ r. ⌜ Tells r (Idle (words (now (t .entry))) current) ⌝ }
 {
-    let Found::At(i) = carv_area::find(t, 21, IDLE) else {
+    let Found::At(i) = carv_area::find(t, rows::ROW, IDLE) else {
         return false;
     };
-    let state = carv_area::get(t, i * 21 + 2);
-    if state == 3 {
+    let state = carv_area::get(t, i * rows::ROW + 2);
+    if state == RUNNING {
         return true;
     }
-    if state != 2 {
+    if state != READY {
         return false;
     }
     current != IDLE
@@ -212,10 +216,10 @@ fn turn(t: &[u8], q: &[u8], j: usize, places: &[usize], marks: &mut [u64]) -> bo
         return false;
     }
     let guess = places[(id % 251) as usize];
-    let Found::At(i) = carv_area::find_near(t, 21, id, guess) else {
+    let Found::At(i) = carv_area::find_near(t, rows::ROW, id, guess) else {
         return false;
     };
-    if carv_area::get(t, i * 21 + 2) != 2 {
+    if carv_area::get(t, i * rows::ROW + 2) != READY {
         return false;
     }
     if marks[i] != 0 {
@@ -285,7 +289,7 @@ fn tables_are_sound(t: &[u8], q: &[u8], current: u64) -> bool
         return false;
     }
     let n = n as usize;
-    if !carv_area::zero_from(t, n * 21 + 1) {
+    if !carv_area::zero_from(t, n * rows::ROW + 1) {
         return false;
     }
     let m = m as usize;
@@ -311,10 +315,7 @@ fn exits_are_sound(x: &[u8]) -> bool
     let mut i = 0;
     while i < n {
         let cause = carv_area::get(x, i * 2 + 2);
-        if cause < 1 {
-            return false;
-        }
-        if cause > 2 {
+        if !killing::is_cause(cause) {
             return false;
         }
         i += 1;
@@ -327,21 +328,25 @@ fn parts_are_sound(area: &[u8]) -> bool
     requires { ⌜ length (now area) ≡ 68_144 ⌝ }
     ensures { λ r. ⌜ Tells r (SoundParts (now (area .entry))) ⌝ }
 {
-    let current = carv_area::get(&area[45_072..45_088], 0);
-    if !tables_are_sound(&area[45_088..66_600], &area[66_600..67_624], current) {
+    let current = carv_area::get(&area[area::HEAD..area::THREADS], 0);
+    if !tables_are_sound(
+        &area[area::THREADS..area::QUEUE],
+        &area[area::QUEUE..area::EXITS],
+        current,
+    ) {
         return false;
     }
-    exits_are_sound(&area[67_624..68_144])
+    exits_are_sound(&area[area::EXITS..area::BYTES])
 }
 
 // Question 1.
 pub fn is_sound(area: &[u8]) -> bool
     ensures { λ r. ⌜ r ≡ sound-area (now (area .entry)) ⌝ }
 {
-    if area.len() != 68_144 {
+    if area.len() != area::BYTES {
         return false;
     }
-    if !carv_objects::is_sound(&area[0..45_072]) {
+    if !carv_objects::is_sound(&area[0..area::HEAD]) {
         return false;
     }
     parts_are_sound(area)

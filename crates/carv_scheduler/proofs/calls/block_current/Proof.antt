@@ -1,11 +1,8 @@
 -- `carv_scheduler::calls::block_current` meets its contract. Assumes nothing.
 use borrow.Author.Needs.{needs}
-use mathlib.Core.Path.{refl, sym, _∙_, ap, subst}
-use Prim.Native.Nat.{ℕ}
-use Rattle.carv_area.specs.Lookup.{Here}
-use Rattle.carv_scheduler.proofs.Rules.{said-not, said-so}
-use Rattle.carv_scheduler.specs.Rows.{no-row}
-use Rattle.carv_scheduler.specs.Kept.{block-current-kept}
+use mathlib.Core.Path.{refl, sym, _∙_}
+use Rattle.carv_objects.proofs.Rules.{said-not, said-so}
+use Rattle.carv_board.specs.Kept.{block-current-kept}
 use Rattle.carv_scheduler.specs.Formed.{leaves-as}
 use Rattle.carv_scheduler.specs.AreaLaws.{area-formed, area-sound}
 use Rattle.carv_scheduler.specs.Calls.{refused, answered}
@@ -28,6 +25,7 @@ block-current-spec =
     (λ c κs. area-formed _ (c .before .before .before .before .before .before .before .before .before .before .pre))  -- current-requires
     (λ c. search needs)  -- same-length-2
     (λ c. refused _ _ (c .before .before .before .before .before .before .before .before .before .before .before .before .pre) 8 (block-idle (c .before .before .before .before .before .before .before .before .before .before .before .before .args .kind) (c .before .before .before .before .before .before .before .before .before .before .before .before .args .number) (decode (c .before .before .before .before .before .before .before .before .before .before .before .before .args .a .now)) (said-so _ _ (c .before .before .before .before .before .before .before .before .before .before .is-wait-listed .ensures) (c .before .before .before .before .before .before .before .before .before .if1 .left)) (here-is ((decode (c .before .before .before .before .before .before .before .before .before .before .before .before .args .a .now)) .threads) _ _ (c .before .before .before .before .before .before .before .current-place .ensures) _ (c .before .before .before .before .before .thread-at .ensures) 3 (c .before .before .before .if2 .left)) (sym (c .before .current .ensures) ∙ c .if3 .taken)))  -- returns-3
-    (λ c κs. (area-formed _ (c .before .before .before .before .before .before .before .before .before .before .before .before .before .pre), subst (λ (x : ℕ). Here no-row ((decode (c .before .before .before .before .before .before .before .before .before .before .before .before .before .args .a .now)) .threads) x (c .before .before .before .before .before .before .before .before .current-place .result)) (sym (c .before .before .current .ensures)) (c .before .before .before .before .before .before .before .before .current-place .ensures)))  -- set-state-requires
+    (λ c κs. (area-formed _ (c .before .before .before .before .before .before .before .before .before .before .before .before .before .pre), c .before .before .before .before .before .before .before .before .current-place .ensures .within))  -- set-state-requires
     (λ c. search needs)  -- same-length-3
-    (λ c. answered _ _ (c .before .before .before .before .before .before .before .before .before .before .before .before .before .before .before .before .pre) _ (block-done (c .before .before .before .before .before .before .before .before .before .before .before .before .before .before .before .before .args .kind) (c .before .before .before .before .before .before .before .before .before .before .before .before .before .before .before .before .args .number) (decode (c .before .before .before .before .before .before .before .before .before .before .before .before .before .before .before .before .args .a .now)) (said-so _ _ (c .before .before .before .before .before .before .before .before .before .before .before .before .before .before .is-wait-listed .ensures) (c .before .before .before .before .before .before .before .before .before .before .before .before .before .if1 .left)) (here-is ((decode (c .before .before .before .before .before .before .before .before .before .before .before .before .before .before .before .before .args .a .now)) .threads) _ _ (c .before .before .before .before .before .before .before .before .before .before .before .current-place .ensures) _ (c .before .before .before .before .before .before .before .before .before .thread-at .ensures) 3 (c .before .before .before .before .before .before .before .if2 .left)) (λ q. c .before .before .before .before .if3 .left (c .before .before .before .before .before .current .ensures ∙ q))) _ refl refl _ (leaves-as _ _ _ (blocked-current (decode (c .before .before .before .before .before .before .before .before .before .before .before .before .before .before .before .before .args .a .now)) _ _ _ (c .before .before .before .before .before .current .ensures)) (c .before .before .set-state .ensures)) (block-current-kept (c .before .before .before .before .before .before .before .before .before .before .before .before .before .before .before .before .args .kind) (c .before .before .before .before .before .before .before .before .before .before .before .before .before .before .before .before .args .number) (decode (c .before .before .before .before .before .before .before .before .before .before .before .before .before .before .before .before .args .a .now)) (area-sound _ (c .before .before .before .before .before .before .before .before .before .before .before .before .before .before .before .before .pre)))))  -- returns-4
+    (λ c. answered _ _ (c .before .before .before .before .before .before .before .before .before .before .before .before .before .before .before .before .pre) _ (block-done (c .before .before .before .before .before .before .before .before .before .before .before .before .before .before .before .before .args .kind) (c .before .before .before .before .before .before .before .before .before .before .before .before .before .before .before .before .args .number) (decode (c .before .before .before .before .before .before .before .before .before .before .before .before .before .before .before .before .args .a .now)) (said-so _ _ (c .before .before .before .before .before .before .before .before .before .before .before .before .before .before .is-wait-listed .ensures) (c .before .before .before .before .before .before .before .before .before .before .before .before .before .if1 .left)) (here-is ((decode (c .before .before .before .before .before .before .before .before .before .before .before .before .before .before .before .before .args .a .now)) .threads) _ _ (c .before .before .before .before .before .before .before .before .before .before .before .current-place .ensures) _ (c .before .before .before .before .before .before .before .before .before .thread-at .ensures) 3 (c .before .before .before .before .before .before .before .if2 .left)) (λ q. c .before .before .before .before .if3 .left (c .before .before .before .before .before .current .ensures ∙ q))) _ refl refl _
+    (leaves-as _ _ _ (blocked-current (decode (c .before .before .before .before .before .before .before .before .before .before .before .before .before .before .before .before .args .a .now)) _ _ _ (c .before .before .before .before .before .before .before .before .before .before .before .current-place .ensures)) (c .before .before .set-state .ensures)) (block-current-kept (c .before .before .before .before .before .before .before .before .before .before .before .before .before .before .before .before .args .kind) (c .before .before .before .before .before .before .before .before .before .before .before .before .before .before .before .before .args .number) (decode (c .before .before .before .before .before .before .before .before .before .before .before .before .before .before .before .before .args .a .now)) (area-sound _ (c .before .before .before .before .before .before .before .before .before .before .before .before .before .before .before .before .pre)))))  -- returns-4

@@ -1,10 +1,9 @@
 -- `carv_scheduler::calls::create_user_thread` meets its contract. Assumes nothing.
 use borrow.Author.Needs.{needs}
-use mathlib.Core.Path.{refl, sym, _∙_, ap}
-use mathlib.Core.Bool.{true, false}
+use mathlib.Core.Path.{refl, sym, _∙_}
 use native.Mathlib.Omega.{arith}
 use borrow.Author.Tests.{not-true, not-false}
-use Rattle.carv_scheduler.specs.Kept.{create-user-thread-kept}
+use Rattle.carv_board.specs.Kept.{create-user-thread-kept}
 use Rattle.carv_scheduler.specs.Formed.{leaves-as}
 use Rattle.carv_scheduler.specs.AreaLaws.{area-formed, area-sound}
 use Rattle.carv_scheduler.specs.Calls.{refused, answered}

@@ -1,5 +1,5 @@
 -- `carv_scheduler::calls::is_wait_listed` meets its contract. Assumes nothing.
-use Rattle.carv_scheduler.proofs.Rules.{tests}
+use Rattle.carv_objects.proofs.Rules.{tests}
 use Rattle.carv_scheduler.proofs.calls.is_wait_listed.Statement.{statement}
 use Rattle.carv_scheduler.proofs.calls.is_wait_listed.Tie as tie
 

@@ -2,7 +2,7 @@
 use mathlib.Core.Path.{refl, ap}
 use mathlib.Core.Option.{some}
 use Prim.Native.Nat.{ℕ}
-use Rattle.carv_scheduler.specs.Scheduler.{figure}
+use Rattle.carv_board.specs.Scheduler.{figure}
 use Rattle.carv_scheduler.specs.AreaLaws.{area-formed}
 use Rattle.carv_scheduler.specs.Calls.{read-serves}
 use Rattle.carv_scheduler.proofs.calls.switches.Statement.{statement}

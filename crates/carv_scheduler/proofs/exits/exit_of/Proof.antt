@@ -4,7 +4,7 @@ use Prim.Native.Nat.{_-_}
 use native.Mathlib.Omega.{arith}
 use mathlib.Core.Path.{_≡_, refl}
 use lib.ListN.{length, drop}
-use Rattle.carv_scheduler.specs.Scheduler.{exit-in}
+use Rattle.carv_board.specs.Scheduler.{exit-in}
 use Rattle.carv_scheduler.specs.Area.{decode}
 use Rattle.carv_scheduler.specs.AreaLaws.{area-formed}
 use Rattle.carv_scheduler.specs.ExitSteps.{exit-ends, exit-found, exit-on, cause-served, no-cause-served}

@@ -9,9 +9,9 @@ end-thread-spec =
     tie.close
     (tie.spec
     (λ c κs. c .before .before .pre .0)  -- current-requires
-    (λ c κs. (c .before .before .before .before .before .before .before .before .before .pre .0, (c .before .before .before .before .before .before .before .before .before .pre .1 .0 .within, c .before .before .before .before .before .before .before .before .before .pre .1 .0 .same)))  -- set-thread-requires
+    (λ c κs. (c .before .before .before .before .before .pre .0, c .before .before .before .before .before .pre .1 .within))  -- set-state-requires
     (λ c. search needs)  -- same-length
-    (λ c. killed-current (c .before .before .before .before .before .before .before .before .before .before .before .before .args .a .now) _ _ (c .before .before .before .before .before .before .before .before .before .before .before .before .pre .1 .0) _ (c .before .before .before .before .before .before .before .before .before .current .ensures) (c .before .before .before .before .before .before .before .before .if1 .taken) _ (c .before .before .before .before .before .before .before .before .before .before .before .before .pre .1 .1) _ (c .before .before .set-thread .ensures))  -- returns
-    (λ c κs. (c .before .before .before .before .before .pre .0, c .before .before .before .before .before .pre .1 .0 .within))  -- remove-thread-requires
+    (λ c. killed-current (c .before .before .before .before .before .before .before .before .args .a .now) _ _ (c .before .before .before .before .before .before .before .before .pre .1) _ (c .before .before .before .before .before .current .ensures) (c .before .before .before .before .if1 .taken) _ (c .before .before .set-state .ensures))  -- returns
+    (λ c κs. (c .before .before .before .before .before .pre .0, c .before .before .before .before .before .pre .1 .within))  -- remove-thread-requires
     (λ c. search needs)  -- same-length-2
-    (λ c. killed-other (c .before .before .before .before .before .before .before .before .args .a .now) _ _ (c .before .before .before .before .before .before .before .before .pre .1 .0) _ (c .before .before .before .before .before .current .ensures) (c .before .before .before .before .if1 .left) _ (c .before .before .remove-thread .ensures)))  -- returns-2
+    (λ c. killed-other (c .before .before .before .before .before .before .before .before .args .a .now) _ _ (c .before .before .before .before .before .before .before .before .pre .1) _ (c .before .before .before .before .before .current .ensures) (c .before .before .before .before .if1 .left) _ (c .before .before .remove-thread .ensures)))  -- returns-2

@@ -2,7 +2,8 @@
 use borrow.Author.Needs.{needs}
 use Rattle.carv_objects.proofs.Rules.{said-not, said-so}
 use Rattle.carv_scheduler.specs.AreaLaws.{area-formed}
-use Rattle.carv_scheduler.specs.KillSteps.{found-here, found-gone, kill-4, kill-5, kill-7, kill-distinct, kill-served}
+use Rattle.carv_scheduler.specs.Places.{found-here, found-gone, gone-has}
+use Rattle.carv_scheduler.specs.KillSteps.{kill-4, kill-5, kill-7, kill-distinct, kill-served}
 use Rattle.carv_scheduler.specs.Area.{decode}
 use Rattle.carv_scheduler.proofs.killing.kill.Statement.{statement}
 use Rattle.carv_scheduler.proofs.killing.kill.Tie as tie
@@ -18,9 +19,9 @@ kill-spec =
     (λ c. search needs)  -- enum-known-i
     (λ c. search needs)  -- enum-told
     (λ c. search needs)  -- same-length
-    (λ c. kill-7 (c .before .before .before .before .before .before .before .before .args .a .now) (c .before .before .before .before .before .before .before .before .pre) (c .before .before .before .before .before .before .before .before .args .id) (c .before .before .before .before .before .before .before .before .args .cause) (said-so _ _ (c .before .before .before .before .before .before .is-cause .ensures) (c .before .before .before .before .before .if1 .left)) (c .before .before .before .before .if2 .left) (found-gone ((decode (c .before .before .before .before .before .before .before .before .args .a .now)) .threads) _ _ (c .before .before .find-thread .ensures) (c .enum-told .given .1)))  -- returns-3
+    (λ c. kill-7 (c .before .before .before .before .before .before .before .before .args .a .now) (c .before .before .before .before .before .before .before .before .pre) (c .before .before .before .before .before .before .before .before .args .id) (c .before .before .before .before .before .before .before .before .args .cause) (said-so _ _ (c .before .before .before .before .before .before .is-cause .ensures) (c .before .before .before .before .before .if1 .left)) (c .before .before .before .before .if2 .left) (gone-has _ _ (found-gone ((decode (c .before .before .before .before .before .before .before .before .args .a .now)) .threads) _ _ (c .before .before .find-thread .ensures) (c .enum-told .given .1))))  -- returns-3
     (λ c κs. (area-formed _ (c .before .before .before .before .before .before .before .before .before .before .pre), found-here ((decode (c .before .before .before .before .before .before .before .before .before .before .args .a .now)) .threads) _ _ (c .before .before .before .before .find-thread .ensures) _ (c .before .before .i .given .1) .within))  -- thread-at-requires
-    (λ c κs. (area-formed _ (c .before .before .before .before .before .before .before .before .before .before .before .before .pre), (found-here ((decode (c .before .before .before .before .before .before .before .before .before .before .before .before .args .a .now)) .threads) _ _ (c .before .before .before .before .before .before .find-thread .ensures) _ (c .before .before .before .before .i .given .1), c .before .thread-at .ensures)))  -- end-thread-requires
+    (λ c κs. (area-formed _ (c .before .before .before .before .before .before .before .before .before .before .before .before .pre), found-here ((decode (c .before .before .before .before .before .before .before .before .before .before .before .before .args .a .now)) .threads) _ _ (c .before .before .before .before .before .before .find-thread .ensures) _ (c .before .before .before .before .i .given .1)))  -- end-thread-requires
     (λ c κs. (c .before .before .before .end-thread .ensures .formed, kill-distinct (c .before .before .before .before .before .before .before .before .before .before .before .before .before .before .before .before .args .a .now) (c .before .before .before .before .before .before .before .before .before .before .before .before .before .before .before .before .pre) (c .before .before .before .before .before .before .before .before .before .before .before .before .before .before .before .before .args .id) (c .before .before .before .before .before .before .before .before .before .before .before .before .before .before .before .before .args .cause) (said-so _ _ (c .before .before .before .before .before .before .before .before .before .before .before .before .before .before .is-cause .ensures) (c .before .before .before .before .before .before .before .before .before .before .before .before .before .if1 .left)) (c .before .before .before .before .before .before .before .before .before .before .before .before .if2 .left) _ (c .before .before .before .end-thread .ensures)))  -- leave-queue-requires
     (λ c κs. c .before .before .before .leave-queue .ensures .formed)  -- log-exit-requires
     (λ c κs. search needs)  -- wait-answer-requires

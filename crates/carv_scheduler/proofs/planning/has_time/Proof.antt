@@ -11,10 +11,10 @@ pub has-time-spec : {M : Type 1} → statement M
 has-time-spec =
     tie.close
     (tie.spec
-    (λ c κs. search needs)  -- word-at-requires
+    (λ c κs. search needs)  -- thread-word-requires
     (λ c. search needs)  -- same-length
-    (λ c. tests-free _ _ (c .before .before .before .before .pre .0) (getD ((decode (c .before .before .before .before .args .a .now)) .threads) (c .before .before .before .before .args .i) no-row .it .budget) _ (c .before .word-at .ensures) (c .if1 .taken))  -- returns
-    (λ c κs. search needs)  -- word-at-requires-2
+    (λ c. tests-free _ _ (c .before .before .before .before .pre .0) (getD ((decode (c .before .before .before .before .args .a .now)) .threads) (c .before .before .before .before .args .i) no-row .it .budget) _ (c .before .thread-word .ensures) (c .if1 .taken))  -- returns
+    (λ c κs. search needs)  -- thread-word-requires-2
     (λ c κs. search needs)  -- renew-requires
     (λ c. search needs)  -- same-length-2
-    (λ c. tests-budget _ _ (c .before .before .before .before .before .before .before .before .before .before .pre .0) (getD ((decode (c .before .before .before .before .before .before .before .before .before .before .args .a .now)) .threads) (c .before .before .before .before .before .before .before .before .before .before .args .i) no-row .it .budget) _ (c .before .before .before .before .before .before .before .word-at .ensures) (c .before .before .before .before .before .before .if1 .left) _ (c .before .before .before .before .word-at2 .ensures) _ _ (c .before .before .renew .ensures)))  -- returns-2
+    (λ c. tests-budget _ _ (c .before .before .before .before .before .before .before .before .before .before .pre .0) (getD ((decode (c .before .before .before .before .before .before .before .before .before .before .args .a .now)) .threads) (c .before .before .before .before .before .before .before .before .before .before .args .i) no-row .it .budget) _ (c .before .before .before .before .before .before .before .thread-word .ensures) (c .before .before .before .before .before .before .if1 .left) _ (c .before .before .before .before .thread-word2 .ensures) _ _ (c .before .before .renew .ensures)))  -- returns-2

@@ -1,6 +1,6 @@
 -- `carv_scheduler::planning::run` meets its contract. Assumes nothing.
 use borrow.Author.Needs.{needs}
-use Rattle.carv_scheduler.specs.Planning.{found-here, found-gone}
+use Rattle.carv_scheduler.specs.Places.{found-here, found-gone}
 use Rattle.carv_scheduler.specs.PlanSteps.{runs-at, runs-gone}
 use Rattle.carv_scheduler.specs.Area.{decode}
 use Rattle.carv_scheduler.proofs.planning.run.Statement.{statement}

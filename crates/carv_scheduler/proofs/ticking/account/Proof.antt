@@ -2,7 +2,7 @@
 use borrow.Author.Needs.{needs}
 use native.Mathlib.Omega.{arith}
 use Rattle.carv_scheduler.specs.AreaLaws.{area-formed}
-use Rattle.carv_scheduler.specs.Waking.{found-here, found-gone}
+use Rattle.carv_scheduler.specs.Places.{found-here, found-gone}
 use Rattle.carv_scheduler.specs.Ticking.{account-gone, account-free, account-paid}
 use Rattle.carv_scheduler.specs.Area.{decode}
 use Rattle.carv_scheduler.proofs.ticking.account.Statement.{statement}

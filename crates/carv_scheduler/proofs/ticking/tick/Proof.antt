@@ -1,7 +1,7 @@
 -- `carv_scheduler::ticking::tick` meets its contract. Assumes nothing.
 use borrow.Author.Needs.{needs}
 use native.Mathlib.Omega.{arith}
-use Rattle.carv_scheduler.specs.Scheduler.{tick}
+use Rattle.carv_board.specs.Scheduler.{tick}
 use Rattle.carv_scheduler.specs.Calls.{refused}
 use Rattle.carv_scheduler.specs.Ticking.{tick-late, ticks}
 use Rattle.carv_scheduler.specs.Area.{decode}

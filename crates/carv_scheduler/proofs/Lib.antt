@@ -1,2 +1,0 @@
--- The root of the crate's own proof modules.
-pub mod Rules
