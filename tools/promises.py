@@ -12,7 +12,7 @@ names from the section "Demands" on; the column "01 says" is left out, as it has
     module::f, scheduler/module::f     in src/module.rt of carv_objects, carv_scheduler
     objects::f, scheduler::f           in src/lib.rt there, or passed on by it; carv_area::f in carv_area
     Type::name, struct T, enum T       in any src/; carv_name in a src/c.rt; Mistake::X in host/board/tests/mistakes.rs
-    objects/edit, board/edit           in must-fail/ of the crate, so area/edit; bare names of the last column in carv_budget's
+    objects/edit, board/edit, ..       in must-fail/ of the crate, so area/edit; bare names of the last column in carv_budget's
     replay_x, "x word" in "run by"     a program; the names behind "Rust:" there in host/oracle/tests
     file.rt, a/path                    in any src/; from ROOT, crates/ or crates/carv_budget/
     first column of the last section   a public function of the crate that the line above the table names
@@ -66,7 +66,7 @@ FORMS = [(re.compile(form), look) for form, look in [
     (r'[A-Z]\w*::(\w+)', lambda n: has(r'\b(?:fn|const) %s\b|^    %s\b' % (n, n), text('crates/*/src/*.rt'))),
     (r'(objects|scheduler|carv_area)::(\w+)', entry),
     (r'(?:(scheduler)/)?([a-z]\w*)::(\w+)', lambda c, m, n: function(n, 'crates/%s/src/%s.rt' % (CRATE[c], m))),
-    (r'(objects|board|area)/(\w+)', lambda c, n: exists('crates/%s/must-fail/%s.edit' % (CRATE[c], n))),
+    (r'(objects|board|scheduler|area)/([a-z]\w*)', lambda c, n: exists('crates/%s/must-fail/%s.edit' % (CRATE[c], n))),
     (r'((?:struct|enum) \w+)', lambda n: has(n + r'\b', text('crates/*/src/*.rt'))),
     (r'(carv_(?!area|budget|board|objects|scheduler)\w+)', lambda n: function(n, 'crates/*/src/c.rt')),
     (r'(\w+\.rt)', lambda n: exists('crates/*/src/' + n)),

@@ -1,6 +1,58 @@
-//! What the programs share: numbers on the command line, and records written out.
+//! What the programs share: the command line, and records written out.
 
-use std::io::{self, Write};
+use std::io::{self, BufWriter, Write};
+use std::process::ExitCode;
+
+/// Runs a program called `name` on the arguments of its command line.
+///
+/// `work` answers how the program was called wrongly, or else what went wrong with it. The exit
+/// status is 0 if all went well, 1 if not, 2 if called wrongly.
+pub fn program(
+    name: &str,
+    help: &str,
+    work: impl FnOnce(&[&str]) -> Result<Result<(), String>, String>,
+) -> ExitCode {
+    let arguments: Vec<String> = std::env::args().skip(1).collect();
+    let arguments: Vec<&str> = arguments.iter().map(String::as_str).collect();
+    if let ["--help" | "-h"] = arguments[..] {
+        print!("{help}");
+        return ExitCode::SUCCESS;
+    }
+    let (why, status) = match work(&arguments) {
+        Ok(Ok(())) => return ExitCode::SUCCESS,
+        Ok(Err(why)) => (why, 1),
+        Err(why) => (format!("{why}; see {name} --help"), 2),
+    };
+    eprintln!("{name}: {why}");
+    ExitCode::from(status)
+}
+
+/// The command `write COUNT SEED` of a program that writes records.
+///
+/// # Errors
+/// As for [`program`].
+pub fn write_command<const BYTES: usize, R: Iterator<Item = [u8; BYTES]>>(
+    arguments: &[&str],
+    records: impl FnOnce(u64) -> R,
+) -> Result<Result<(), String>, String> {
+    let ["write", count, seed] = arguments else {
+        return Err("expected `write COUNT SEED`".to_string());
+    };
+    let (count, seed) = numbers(count, seed)?;
+    Ok(write_out(records(seed), count))
+}
+
+/// Writes the first `count` of records without end to standard output.
+///
+/// # Errors
+/// A sentence that says what went wrong.
+pub fn write_out<const BYTES: usize>(
+    records: impl Iterator<Item = [u8; BYTES]>,
+    count: u64,
+) -> Result<(), String> {
+    let mut to = BufWriter::new(io::stdout().lock());
+    write_records(&mut to, records, count).map_err(|why| format!("can't write the records: {why}"))
+}
 
 /// A number on the command line.
 ///

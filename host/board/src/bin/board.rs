@@ -2,7 +2,7 @@
 
 use carv_board_host::tally::Tally;
 use carv_board_host::{damaged, runs, short};
-use carv_compare::command::numbers;
+use carv_compare::command::{numbers, program};
 use std::process::ExitCode;
 
 const HELP: &str = "\
@@ -28,32 +28,15 @@ Exit status: 0 if nothing differs, 1 if something does, 2 if called wrongly.
 const DEEPEST: usize = 8;
 
 fn main() -> ExitCode {
-    let arguments: Vec<String> = std::env::args().skip(1).collect();
-    let arguments: Vec<&str> = arguments.iter().map(String::as_str).collect();
-    let done = match arguments[..] {
-        ["--help" | "-h"] => {
-            print!("{HELP}");
-            return ExitCode::SUCCESS;
-        }
-        ["random", count, seed] => numbers(count, seed).map(random),
-        ["short", depth] => depth_of(depth).map(all_short),
-        ["damaged", count, seed] => numbers(count, seed).map(damage),
-        _ => Err("expected `random`, `short` or `damaged` with their numbers".to_string()),
-    };
-    match done {
-        Ok(Ok(report)) => {
-            println!("{report}");
-            ExitCode::SUCCESS
-        }
-        Ok(Err(why)) => {
-            println!("{why}");
-            ExitCode::FAILURE
-        }
-        Err(why) => {
-            eprintln!("board: {why}; see board --help");
-            ExitCode::from(2)
-        }
-    }
+    program("board", HELP, |arguments| {
+        let done = match arguments {
+            ["random", count, seed] => random(numbers(count, seed)?),
+            ["short", depth] => all_short(depth_of(depth)?),
+            ["damaged", count, seed] => damage(numbers(count, seed)?),
+            _ => return Err("expected `random`, `short` or `damaged` with their numbers".into()),
+        };
+        Ok(done.map(|report| println!("{report}")))
+    })
 }
 
 fn random((count, seed): (u64, u64)) -> Result<String, String> {

@@ -1,8 +1,7 @@
 //! Writes random calls on a board with the answers that are expected.
 
 use carv_compare::board::record::Records;
-use carv_compare::command::{numbers, write_records};
-use std::io::{self, BufWriter};
+use carv_compare::command::{program, write_command};
 use std::process::ExitCode;
 
 const HELP: &str = "\
@@ -19,30 +18,9 @@ Exit status: 0 if all went well, 1 if not, 2 if called wrongly.
 ";
 
 fn main() -> ExitCode {
-    let arguments: Vec<String> = std::env::args().skip(1).collect();
-    let arguments: Vec<&str> = arguments.iter().map(String::as_str).collect();
-    let done = match arguments[..] {
-        ["--help" | "-h"] => {
-            print!("{HELP}");
-            return ExitCode::SUCCESS;
-        }
-        ["write", count, seed] => numbers(count, seed).map(write),
-        _ => Err("expected `write COUNT SEED`".to_string()),
-    };
-    match done {
-        Ok(Ok(())) => ExitCode::SUCCESS,
-        Ok(Err(why)) => fail(&format!("can't write the records: {why}"), 1),
-        Err(why) => fail(&format!("{why}; see board_record --help"), 2),
-    }
-}
-
-fn fail(why: &str, status: u8) -> ExitCode {
-    eprintln!("board_record: {why}");
-    ExitCode::from(status)
-}
-
-fn write((count, seed): (u64, u64)) -> io::Result<()> {
-    let mut to = BufWriter::new(io::stdout().lock());
-    let records = Records::new(seed).map(|record| record.bytes());
-    write_records(&mut to, records, count)
+    program("board_record", HELP, |arguments| {
+        write_command(arguments, |seed| {
+            Records::new(seed).map(|record| record.bytes())
+        })
+    })
 }

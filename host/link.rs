@@ -1,5 +1,6 @@
-//! Links the port's library, `libcarv_scheduler.a`, from the folder that `CARV_LIB_DIR` names, by
-//! default `target/staticlib` of the repository. With the feature `mock` nothing is linked.
+//! The build script of the packages that link the port's library, `libcarv_scheduler.a`: from the
+//! folder that `CARV_LIB_DIR` names, by default `target/staticlib` of the repository. With the
+//! feature `mock` nothing is linked.
 
 use std::env;
 use std::path::PathBuf;
@@ -7,7 +8,6 @@ use std::path::PathBuf;
 const LIBRARY: &str = "libcarv_scheduler.a";
 
 fn main() {
-    println!("cargo::rerun-if-changed=build.rs");
     println!("cargo::rerun-if-env-changed=CARV_LIB_DIR");
     if env::var_os("CARGO_FEATURE_MOCK").is_some() {
         return;

@@ -1,0 +1,196 @@
+//! `include/carv.h` beside the wrapper: the constants, and the functions with their types.
+
+use carv::{
+    AREA_BYTES, Cause, IMAGE_BYTES, Kind, LAST_TICK, MOST_EXITS, MOST_OBJECTS, MOST_THREADS,
+    ObjectId, PERIOD_NS, Refusal, State, TICK_NS, ThreadId, Wait,
+};
+use std::collections::BTreeMap;
+
+const HEADER: &str = include_str!("../../../../include/carv.h");
+const DECLARATIONS: &str = include_str!("../../src/ffi.rs");
+
+/// The header without comments.
+fn header() -> String {
+    let mut parts = HEADER.split("/*");
+    let before = parts.next().unwrap_or_default().to_string();
+    parts.fold(before, |text, part| {
+        text + part.split_once("*/").expect("a comment's end").1
+    })
+}
+
+/// The number of a constant of the header.
+fn constant(name: &str) -> u64 {
+    let header = header();
+    let mut words = header
+        .split_whitespace()
+        .skip_while(|word| *word != name)
+        .skip(1)
+        .filter(|word| *word != "=");
+    let value = words.next().unwrap_or_else(|| panic!("no {name}"));
+    let value = value.trim_end_matches(',');
+    let digits = value.trim_start_matches("UINT64_C(").trim_end_matches(')');
+    digits
+        .parse()
+        .unwrap_or_else(|_| panic!("{name} is {value}"))
+}
+
+/// `AddressSpace` as `ADDRESS_SPACE`.
+fn upper(name: &str) -> String {
+    let mut text = String::new();
+    for letter in name.chars() {
+        if letter.is_uppercase() && !text.is_empty() {
+            text.push('_');
+        }
+        text.push(letter.to_ascii_uppercase());
+    }
+    text
+}
+
+/// The name of a value as the header has it: `Blocked(Send(0))` as `BLOCKED`.
+fn name_of(value: impl std::fmt::Debug) -> String {
+    let shown = format!("{value:?}");
+    upper(shown.split('(').next().unwrap_or_default())
+}
+
+#[test]
+fn constants() {
+    for (name, value) in [
+        ("AREA_BYTES", AREA_BYTES as u64),
+        ("IMAGE_BYTES", IMAGE_BYTES as u64),
+        ("MOST_OBJECTS", MOST_OBJECTS as u64),
+        ("MOST_THREADS", MOST_THREADS as u64),
+        ("MOST_EXITS", MOST_EXITS as u64),
+        ("PERIOD_NS", PERIOD_NS),
+        ("TICK_NS", TICK_NS),
+        ("LAST_TICK", LAST_TICK),
+        ("ROOT", ObjectId::ROOT.0),
+        ("FIRST_THREAD", ThreadId::FIRST.0),
+        ("IDLE", ThreadId::IDLE.0),
+    ] {
+        assert_eq!(constant(&format!("CARV_{name}")), value, "{name}");
+    }
+}
+
+#[test]
+fn codes() {
+    for kind in Kind::ALL {
+        let name = name_of(kind);
+        assert_eq!(constant(&format!("CARV_KIND_{name}")), kind.code());
+        assert_eq!(constant(&format!("CARV_BYTES_{name}")), kind.bytes());
+        assert_eq!(Kind::try_from(kind.code()), Ok(*kind));
+    }
+    assert_eq!(Kind::try_from(10), Err(Refusal::Code));
+    for cause in Cause::ALL {
+        assert_eq!(
+            constant(&format!("CARV_CAUSE_{}", name_of(cause))),
+            cause.code()
+        );
+    }
+    for wait in [
+        Wait::Send(7),
+        Wait::Recv(7),
+        Wait::Reply(7),
+        Wait::Notification(7),
+        Wait::Sleep(7),
+    ] {
+        let code = constant(&format!("CARV_WAIT_{}", name_of(wait)));
+        assert_eq!(wait.codes(), (code, 7));
+    }
+    for state in [
+        State::Inactive,
+        State::Ready,
+        State::Running,
+        State::Blocked(Wait::Send(0)),
+        State::Dead,
+    ] {
+        assert_eq!(
+            constant(&format!("CARV_STATE_{}", name_of(state))),
+            state.code()
+        );
+    }
+    for refusal in Refusal::LISTED {
+        let code = constant(&format!("CARV_REFUSED_{}", name_of(refusal)));
+        assert_eq!(code, refusal.number());
+    }
+}
+
+/// Functions by name: the types of the arguments in Rust, then that of the answer.
+type Functions = BTreeMap<String, Vec<String>>;
+
+fn in_header() -> Functions {
+    let header = header();
+    let prototypes = header.split([';', '{', '}']).map(str::trim);
+    let prototypes = prototypes.filter_map(|prototype| {
+        let (front, arguments) = prototype.strip_suffix(')')?.split_once('(')?;
+        let (answer, name) = front.split_once(" carv_")?;
+        let types = arguments.split(',').map(|argument| {
+            let (c, name) = argument.trim().rsplit_once(' ').expect("type and name");
+            rust_type(c, name.starts_with('*'))
+        });
+        let types = types.chain([rust_type(answer, false)]).collect();
+        Some((format!("carv_{name}"), types))
+    });
+    prototypes.collect()
+}
+
+fn rust_type(c: &str, pointer: bool) -> String {
+    let (element, lent) = match c.strip_prefix("const ") {
+        Some(element) => (element, "*const "),
+        None => (c, "*mut "),
+    };
+    let element = match element {
+        "uint8_t" => "u8",
+        "uint64_t" => "u64",
+        "size_t" => "usize",
+        "bool" => "bool",
+        other => panic!("the type {other}"),
+    };
+    format!("{}{element}", if pointer { lent } else { "" })
+}
+
+/// What stands between this head and the end of its braces, for each time that it stands there.
+fn blocks(head: &str) -> impl Iterator<Item = &'static str> {
+    let behind = DECLARATIONS.split(head).skip(1);
+    behind.filter_map(|text| text.split_once("\n}\n").map(|(block, _)| block))
+}
+
+/// The types of `name: type, name: type`.
+fn types(arguments: &str) -> impl Iterator<Item = String> {
+    let arguments = arguments.split(',');
+    arguments.filter_map(|argument| Some(argument.split_once(": ")?.1.trim().to_string()))
+}
+
+/// The functions that the wrapper declares: those of the lists, to which the macro adds area and
+/// answer words, and those that are written out.
+fn declared() -> Functions {
+    let mut functions = Functions::new();
+    for block in blocks("\nfunctions! { ") {
+        let (head, list) = block.split_once(":\n").expect("a head and a list");
+        let (area, _) = head.split_once(',').expect("the area's type");
+        let texts = |texts: &[&str]| texts.iter().map(|text| text.to_string()).collect();
+        for function in list.split_terminator(';') {
+            let (name, arguments) = function.split_once('(').expect("arguments");
+            let mut whole: Vec<String> = texts(&[area, "usize"]);
+            whole.extend(types(arguments.trim_end().trim_end_matches(')')));
+            whole.extend::<Vec<String>>(texts(&["*mut u64", "usize", "u64"]));
+            functions.insert(name.trim().to_string(), whole);
+        }
+    }
+    for block in blocks("\nunsafe extern \"C\" {") {
+        for function in block.split_terminator(';') {
+            let (front, answer) = function.split_once(") -> ").expect("an answer");
+            let (name, arguments) = front.split_once('(').expect("arguments");
+            let whole = types(arguments).chain([answer.to_string()]);
+            let name = name.trim().trim_start_matches("fn ");
+            functions.insert(name.to_string(), whole.collect());
+        }
+    }
+    functions
+}
+
+#[test]
+fn functions() {
+    let header = in_header();
+    assert_eq!(header.len(), 26);
+    assert_eq!(declared(), header);
+}

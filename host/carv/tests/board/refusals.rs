@@ -1,0 +1,56 @@
+//! The refusals' numbers and texts.
+
+use carv::Refusal;
+use std::collections::HashSet;
+
+#[test]
+fn numbers() {
+    for (refusal, number) in Refusal::LISTED.into_iter().zip(1..) {
+        assert_eq!(refusal.number(), number);
+        assert_eq!(Refusal::from_number(number), refusal);
+    }
+    assert_eq!(Refusal::from_number(16), Refusal::Other(16));
+    assert_eq!(Refusal::Other(16).number(), 16);
+}
+
+/// Each has a meaning and an advice of its own, the advice in whole sentences.
+#[test]
+fn texts() {
+    let mut texts = HashSet::new();
+    for refusal in Refusal::LISTED.into_iter().chain([Refusal::Other(16)]) {
+        let (meaning, advice) = (refusal.meaning(), refusal.advice());
+        let shown = format!("refused with {}: {meaning}", refusal.number());
+        assert_eq!(refusal.to_string(), shown);
+        assert!(!meaning.is_empty() && !meaning.ends_with('.'), "{meaning}");
+        assert!(
+            advice.starts_with(char::is_uppercase) && advice.ends_with('.'),
+            "{advice}"
+        );
+        assert!(texts.insert(meaning) && texts.insert(advice), "{refusal}");
+    }
+}
+
+/// Words that each meaning must have.
+#[test]
+fn meanings() {
+    let words = [
+        "no sound board",
+        "share of an opening",
+        "tick is above",
+        "not listed",
+        "thread's id",
+        "no place left",
+        "no such object",
+        "not Inactive",
+        "root",
+        "pays for something",
+        "recorded charge",
+        "can't cover",
+        "can't be created",
+        "not there",
+        "can't be returned",
+    ];
+    for (refusal, words) in Refusal::LISTED.into_iter().zip(words) {
+        assert!(refusal.meaning().contains(words), "{refusal}");
+    }
+}

@@ -1,0 +1,236 @@
+//! The day, run on a board tick by tick.
+
+use crate::record::{Day, Doing, Entry};
+use crate::services::{BOARD, EVENTS, Event, FIRST, LAST, PERIOD, SERVICES, Service};
+use crate::setup::{Live, switch_off, switch_on};
+use crate::text::grouped;
+use carv::{Board, Limits, ObjectId, Refusal, State, TICK_NS, ThreadId, Wait};
+
+/// Runs the day.
+pub fn run() -> Result<Day, Refusal> {
+    let mut sorter = Sorter::open()?;
+    for tick in FIRST..=LAST {
+        sorter.tick(tick)?;
+    }
+    sorter.close()
+}
+
+/// A service's part in the running day.
+#[derive(Debug, Default)]
+struct Part {
+    live: Option<Live>,
+    /// Ms of work that came and are not done.
+    backlog: u64,
+    /// When the next job comes, and its ms.
+    next: (u64, u64),
+    draws: u64,
+}
+
+impl Part {
+    /// Draws the first job after this tick.
+    fn draw(&mut self, service: &Service, mut tick: u64) {
+        loop {
+            tick = service.next_job(tick);
+            let work = service.work_at(tick);
+            // A linear congruential generator, of which the high bits are used.
+            self.draws = self.draws.wrapping_mul(6_364_136_223_846_793_005);
+            self.draws = self.draws.wrapping_add(1_442_695_040_888_963_407);
+            let job = work.least + (self.draws >> 33) % (work.most - work.least + 1);
+            if job > 0 {
+                self.next = (tick, job);
+                return;
+            }
+        }
+    }
+}
+
+struct Sorter {
+    board: Board,
+    parts: [Part; SERVICES.len()],
+    day: Day,
+}
+
+impl Sorter {
+    /// Opens the board, and lets thread 0 set up the services in the period before the first.
+    fn open() -> Result<Self, Refusal> {
+        let mut sorter = Self {
+            board: Board::open(BOARD)?,
+            parts: Default::default(),
+            day: Day::default(),
+        };
+        for index in 0..SERVICES.len() {
+            sorter.parts[index].draws = index as u64;
+            sorter.switch_on(index, 0)?;
+        }
+        for tick in 1..FIRST {
+            sorter.board.tick(tick)?;
+        }
+        let left = sorter.board.account(ObjectId::ROOT)?.cpu_left_at(0) / TICK_NS;
+        sorter.note(
+            0,
+            format!(
+                "set-up: five services carved out; {left} ms of every 10 ms stays with the root"
+            ),
+        );
+        sorter.board.block_current(Wait::Notification(0))?;
+        sorter.plan(FIRST - 1)?;
+        Ok(sorter)
+    }
+
+    /// One tick of the day: the current thread is booked, what happens happens, work comes, a
+    /// service that has none left sleeps, and the next thread is planned.
+    fn tick(&mut self, tick: u64) -> Result<(), Refusal> {
+        let ran = self.service_of(self.board.current()?);
+        self.board.tick(tick)?;
+        if let Some(index) = ran {
+            self.parts[index].backlog -= 1;
+            self.check_booking(index, tick)?;
+        }
+        for (_, event) in EVENTS.iter().filter(|(at, _)| *at == tick) {
+            self.happen(*event, tick)?;
+        }
+        for (part, service) in self.parts.iter_mut().zip(&SERVICES) {
+            while part.live.is_some() && part.next.0 <= tick {
+                part.backlog += part.next.1;
+                part.draw(service, part.next.0);
+            }
+        }
+        if let Some(index) = ran {
+            let part = &self.parts[index];
+            if part.live.is_some() && part.backlog == 0 {
+                self.board.block_current(Wait::Sleep(part.next.0))?;
+            }
+        }
+        self.plan(tick)
+    }
+
+    /// The service whose thread this is.
+    fn service_of(&self, thread: ThreadId) -> Option<usize> {
+        let is_its = |part: &Part| part.live.as_ref().is_some_and(|live| live.thread == thread);
+        self.parts.iter().position(is_its)
+    }
+
+    /// Plans, and notes what each service does in the ms that comes.
+    fn plan(&mut self, tick: u64) -> Result<(), Refusal> {
+        self.board.plan(tick)?;
+        for (part, course) in self.parts.iter().zip(&mut self.day.courses) {
+            let Some(live) = &part.live else {
+                continue;
+            };
+            let account = self.board.account(live.budget)?;
+            let doing = match self.board.read_thread(live.thread)?.state {
+                State::Running => Doing::Runs,
+                State::Ready if account.cpu_left_at(tick * TICK_NS) == 0 => Doing::HeldBack,
+                State::Ready => Doing::Waits,
+                _ => Doing::Sleeps,
+            };
+            course.note(tick + 1, doing);
+            course.memory = course.memory.max(account.memory_used_bytes);
+        }
+        Ok(())
+    }
+
+    /// Compares the account of a service that just ran with what it was seen to run in this period.
+    fn check_booking(&mut self, index: usize, tick: u64) -> Result<(), Refusal> {
+        let start = tick - tick % PERIOD;
+        let course = &self.day.courses[index];
+        let ran = (start..=tick).filter(|tick| course.doing(*tick) == Doing::Runs);
+        let ran = ran.count() as u64 * TICK_NS;
+        if let Some(live) = &self.parts[index].live {
+            let account = self.board.account(live.budget)?;
+            let booked = account.limits.cpu_ns - account.cpu_left_ns;
+            if (account.period_start_ns, booked) != (start * TICK_NS, ran) {
+                self.day.misbooked += 1;
+            }
+        }
+        Ok(())
+    }
+
+    fn note(&mut self, tick: u64, text: String) {
+        self.day.diary.push(Entry { tick, text });
+    }
+
+    fn happen(&mut self, event: Event, tick: u64) -> Result<(), Refusal> {
+        match event {
+            Event::Off(index) => self.switch_off(index, tick),
+            Event::On(index) => {
+                self.switch_on(index, tick)?;
+                self.note(
+                    tick,
+                    format!("{} on again, under new ids", SERVICES[index].name),
+                );
+                Ok(())
+            }
+            Event::Ask(name, limits) => self.ask(name, limits, tick),
+            Event::Note(text) => {
+                self.note(tick, text.to_string());
+                Ok(())
+            }
+        }
+    }
+
+    fn switch_on(&mut self, index: usize, tick: u64) -> Result<(), Refusal> {
+        let (part, service) = (&mut self.parts[index], &SERVICES[index]);
+        part.live = Some(switch_on(&mut self.board, service, tick)?);
+        // A service looks around once after its start.
+        part.backlog = 1;
+        part.draw(service, tick);
+        Ok(())
+    }
+
+    fn switch_off(&mut self, index: usize, tick: u64) -> Result<(), Refusal> {
+        let Some(live) = self.parts[index].live.take() else {
+            return Ok(());
+        };
+        self.day.courses[index].run_ticks += self.board.read_thread(live.thread)?.run_ticks;
+        let left = switch_off(&mut self.board, live)?;
+        let wait = match left.wait {
+            Some(Wait::Sleep(until)) => format!("asleep until {} ms", grouped(until)),
+            _ => "in the middle of its work".to_string(),
+        };
+        let text = format!(
+            "{} off: thread killed, {wait}; {} objects and its budget removed",
+            SERVICES[index].name, left.objects
+        );
+        self.note(tick, text);
+        Ok(())
+    }
+
+    /// Asks for a budget that the root can't cover.
+    fn ask(&mut self, name: &str, limits: Limits, tick: u64) -> Result<(), Refusal> {
+        let now = tick * TICK_NS;
+        // Renewed first, as a refused carve-out keeps a renewal that was due.
+        self.board.refill(ObjectId::ROOT, now)?;
+        let before = self.board.clone();
+        let asked = self.board.create_budget(ObjectId::ROOT, limits, now);
+        self.day.refused_cleanly = asked.is_err() && self.board == before;
+        let share = limits.cpu_ns / TICK_NS;
+        let text = match asked {
+            Ok(_) => format!("{name} asks for {share} ms of every 10 ms and gets it"),
+            Err(refusal) => format!(
+                "{name} asks for {share} ms of every 10 ms: {refusal}.\n{}",
+                refusal.advice()
+            ),
+        };
+        self.note(tick, text);
+        Ok(())
+    }
+
+    /// Notes the figures of the day's end.
+    fn close(self) -> Result<Day, Refusal> {
+        let Self {
+            board,
+            parts,
+            mut day,
+        } = self;
+        for (part, course) in parts.iter().zip(&mut day.courses) {
+            if let Some(live) = &part.live {
+                course.run_ticks += board.read_thread(live.thread)?.run_ticks;
+            }
+        }
+        day.switches = board.switches()?;
+        day.idle_run_ticks = board.read_thread(ThreadId::IDLE)?.run_ticks;
+        day.sound = Board::from_bytes(board.as_bytes()).is_ok_and(|restored| restored == board);
+        Ok(day)
+    }
+}
