@@ -28,7 +28,8 @@ pub enum Ids {
     Dense,
     /// With two of three missing.
     Gaps,
-    /// Far apart, so that an id says nothing of its place.
+    /// Far apart, so that an id says nothing of its place, and all with the remainder by which
+    /// question 1 guesses: each guess is wrong.
     Far,
 }
 

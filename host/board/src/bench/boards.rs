@@ -66,14 +66,19 @@ impl Boards {
     }
 }
 
-/// Between ids that lie far apart; 512 of them fit.
-const FAR: u64 = (1 << 54) + 12_345;
+/// Divisors by whose remainders question 1 notes the places of objects and of threads.
+const OBJECT_GUESSES: u64 = 509;
+const THREAD_GUESSES: u64 = 251;
+
+/// Between ids that lie far apart; 512 of them fit. All ids then have the same remainder, so that
+/// question 1's guess of a payer's place is that of the last object.
+const FAR: u64 = OBJECT_GUESSES * (1 << 45) - 1;
 
 /// The id of a thread, counted from 0.
 pub fn thread_id(place: u64, ids: Ids) -> u64 {
     match ids {
         Ids::Dense => 1_000 + place,
         Ids::Gaps => 1_000 + 3 * place,
-        Ids::Far => (place + 1) * ((1 << 56) + 12_345),
+        Ids::Far => (place + 1) * (THREAD_GUESSES << 48),
     }
 }
