@@ -1,11 +1,11 @@
 /*
  * The board of Joekwind in C: budgets, objects, threads, ready queue and exit log, in bytes that
- * the caller lends. `rt staticlib carv_scheduler` writes the library for x86-64 Linux,
- * target/staticlib/libcarv_scheduler.a. Beside it only the C library is linked.
+ * the caller lends. `rt staticlib carv` writes the library for x86-64 Linux,
+ * target/staticlib/libcarv.a. Beside it only the C library is linked.
  *
- * docs/LAYOUT.md has the area byte by byte. The functions stand in crates/carv_scheduler/src/c.rt;
- * specs/C.antt, specs/Creating.antt and specs/Image.antt of that crate say what each is proved to
- * return and to leave.
+ * docs/LAYOUT.md has the area byte by byte. The functions stand in crates/carv/src/lib.rt;
+ * specs/C.antt there, and specs/Area.antt, specs/Creating.antt and specs/Image.antt of
+ * crates/carv_scheduler, say what each is proved to return and to leave.
  *
  * What is lent
  *

@@ -1,15 +1,17 @@
 #!/usr/bin/env python3
 """Writes the board's entry points and C functions.
 
-    tools/entries.py CRATE_DIR ANSWERS
+    tools/entries.py ENTRY_ANSWERS C_ANSWERS
 
-Writes the entry points of src/lib.rt and the C functions of src/c.rt, for the calls listed below, and the answers by which
-tools/prove.py proves them, into ANSWERS. In both files everything from the marker line to the end is replaced; what stands above it
+Writes the entry points of carv_scheduler (src/lib.rt) and the C functions of carv (src/lib.rt), for the calls listed below, and the
+answers by which tools/prove.py proves them. In both files everything from the marker line to the end is replaced; what stands above it
 is kept. A call: name, parameters after the area, definition, module of the inner function, does it only read, comment. Parameters
 of a struct's type are numbers in the C function.
 """
+import pathlib
 import sys
 
+ROOT = pathlib.Path(__file__).resolve().parent.parent
 REGISTRY, CALLS = 'registry', [
     ('create', 'kind: u64, payer: u64, backing: bool', 'create', 'registry', False, 'A new object of this kind.'),
     ('insert', 'kind: u64, payer: u64, bytes: u64', 'insert', 'registry', False, 'An object of this kind that takes this many bytes.'),
@@ -71,7 +73,7 @@ def entry(name, params, definition, module, reading, comment):
     answers = '== %s\nuse Rattle.carv_scheduler.specs.Entry.{entry-refused, entry-sound, entry-served}\n' % name
     served = '@%s .ensures' % place
     if module == REGISTRY:
-        answers += 'use Rattle.carv_scheduler.specs.OnRegistry.{registry-serves}\nuse Rattle.carv_objects.specs.Registry.{%s}\n' % definition
+        answers += 'use Rattle.carv_scheduler.specs.OnRegistry.{registry-serves}\nuse Rattle.carv_registry.specs.Registry.{%s}\n' % definition
         served = 'registry-serves (%s) _ _ _ (%s)' % (' '.join([definition] + ['%' + n for n in names]), served)
     answers += 'returns := entry-refused _ _ _ (@is-sound .ensures) (@if1 .taken)\n'
     answers += '%s-requires := entry-sound _ _ (@is-sound .ensures) (@if1 .left)\n' % place
@@ -99,9 +101,9 @@ def c_function(name, params, definition, module, reading, comment):
     text += signature('pub extern "C" fn carv_' + name, ['area: &[u8]' if reading else 'area: &mut [u8]'] + numbers + ['out: &mut [u64]'], 'u64')
     text += '    ensures { λ r. ⌜ Exported (%s) (now (area .entry)) (now (out .entry)) r (now (area .%s)) (now (out .exit)) ⌝ }\n' % (spec, left)
     text += '{\n    if out.len() != WORDS {\n        return 1;\n    }\n' + made
-    text += '    let answer = crate::%s(%s);\n    report(answer, out)\n}\n' % (name, ', '.join(['area'] + given))
+    text += '    let answer = carv_scheduler::%s(%s);\n    report(answer, out)\n}\n' % (name, ', '.join(['area'] + given))
     place = name.replace('_', '-')
-    answers = '== c/carv_%s\nuse Rattle.carv_scheduler.specs.Entry.{returned-one, returned}\n' % name
+    answers = '== carv_%s\nuse Rattle.carv.specs.Reporting.{returned-one, returned}\n' % name
     answers += 'returns := returned-one _ _ _ (@if1 .taken)\n'
     answers += 'report-requires := @if1 .left\n'
     answers += 'returns-2 := returned _ _ _ (@if1 .left) _ _ (@%s .ensures) _ _ (@report .ensures)\n' % place
@@ -111,23 +113,14 @@ def c_function(name, params, definition, module, reading, comment):
 def main():
     if len(sys.argv) != 3:
         sys.exit(__doc__)
-    crate, out = sys.argv[1:]
-    lib, c, answers = LIB_MARK, C_MARK, ''
-    for name, params, *rest in CALLS:
-        params = [p for p in params.split(', ') if p]
-        for part, make in ((0, entry), (1, c_function)):
-            text, told = make(name, params, *rest)
-            answers += told
-            if part == 0:
-                lib += text
-            else:
-                c += text
-    for path, mark, text in (('src/lib.rt', LIB_MARK, lib), ('src/c.rt', C_MARK, c)):
-        s = open('%s/%s' % (crate, path)).read()
+    for crate, mark, make, out in (('carv_scheduler', LIB_MARK, entry, sys.argv[1]), ('carv', C_MARK, c_function, sys.argv[2])):
+        made = [make(name, [p for p in params.split(', ') if p], *rest) for name, params, *rest in CALLS]
+        path = ROOT / 'crates' / crate / 'src/lib.rt'
+        s = path.read_text()
         if s.count(mark) != 1:
             sys.exit('%s: no line %r' % (path, mark))
-        open('%s/%s' % (crate, path), 'w').write(s[:s.index(mark)] + text)
-    open(out, 'w').write(answers)
+        path.write_text(s[:s.index(mark)] + mark + ''.join(text for text, _ in made))
+        pathlib.Path(out).write_text(''.join(told for _, told in made))
 
 
 main()

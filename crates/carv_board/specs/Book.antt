@@ -1,12 +1,12 @@
 -- Document 01's book: what demand 3's figures and plannings are worked from. It is fed each call's arguments and its refusal number (0: accepted), and never sees the
--- board. carv_objects/specs/Book.antt is its half for the registry. Assumes nothing.
+-- board. carv_registry/specs/Book.antt is its half for the registry. Assumes nothing.
 use mathlib.Core.Bool.{Bool, true, false, cond, not, _&&_}
 use mathlib.Core.Option.{Option, none, some}
 use mathlib.Core.List.{List, [], _∷_}
 use Prim.Native.Nat.{ℕ, _*_, min}
 use lib.Dec.{eqb, ltb, leb}
 use Rattle.carv_area.specs.Table.{Row, at, alter, put, pick}
-use Rattle.carv_objects.specs.Book as objects
+use Rattle.carv_registry.specs.Book as objects
 use Rattle.carv_board.specs.declared.Wait.{Wait}
 use Rattle.carv_board.specs.declared.Context.{Context}
 use Rattle.carv_board.specs.declared.Results.{Results}

@@ -6,8 +6,8 @@ use mathlib.Core.Option.{none, some}
 use mathlib.Core.List.{List, [], _∷_}
 use Prim.Native.Nat.{ℕ, _≤_}
 use Rattle.carv_budget.specs.Account.{period}
-use Rattle.carv_objects.specs.Answer.{accept}
-use Rattle.carv_objects.specs.Demand2 as objects
+use Rattle.carv_registry.specs.Reply.{accept}
+use Rattle.carv_registry.specs.Demand2 as objects
 use Rattle.carv_board.specs.Scheduler as scheduler
 use Rattle.carv_board.specs.Scheduler.{Board, Answers, is-blocked, record-of, figure, exit-cause, wait, has}
 use Rattle.carv_board.specs.Rust as rust

@@ -13,11 +13,11 @@ use Rattle.carv_area.specs.Table
 use Rattle.carv_area.specs.Table.{Row, at, test}
 use Rattle.carv_budget.specs.Account.{period}
 use Rattle.carv_budget.specs.Laws.{not-second}
-use Rattle.carv_objects.specs.Registry.{is-budget, account-of}
-use Rattle.carv_objects.specs.Book as objects
-use Rattle.carv_objects.specs.Book.{Figures, Budget, figures, is-live, budget-of, on-budget, cpu-left}
-use Rattle.carv_objects.specs.History as registry-history
-use Rattle.carv_objects.specs.History.{line}
+use Rattle.carv_registry.specs.Registry.{is-budget, account-of}
+use Rattle.carv_registry.specs.Book as objects
+use Rattle.carv_registry.specs.Book.{Figures, Budget, figures, is-live, budget-of, on-budget, cpu-left}
+use Rattle.carv_registry.specs.History as registry-history
+use Rattle.carv_registry.specs.History.{line}
 use Rattle.carv_board.specs.Scheduler as scheduler
 use Rattle.carv_board.specs.Scheduler.{Board, Answers, idle, tick-ns, running, is, thread, root-of, opening, no-switch, switch}
 use Rattle.carv_board.specs.Sound.{member}

@@ -7,8 +7,8 @@ use Prim.Native.Nat.{ℕ, zero, suc, _+_}
 use lib.ListN.{length}
 use Rattle.carv_budget.specs.declared.Account.{Account}
 use Rattle.carv_budget.specs.Account.{due, renew, returnable}
-use Rattle.carv_objects.specs.Answer.{refuse, accept, id, renewed, charge}
-use Rattle.carv_objects.specs.Registry.{account-of, create, create-budget, uncharge, remove, refill, charge-cpu, charge-of}
+use Rattle.carv_registry.specs.Reply.{refuse, accept, id, renewed, charge}
+use Rattle.carv_registry.specs.Registry.{account-of, create, create-budget, uncharge, remove, refill, charge-cpu, charge-of}
 use Rattle.carv_board.specs.Scheduler.{Board, Value, Answers, of-registry, no-switch, switch, ended, figure, exit-cause, idle, fresh-context, thread, opening, create-user-thread, start, kill, tick, plan, read-thread, read-current, read-switches, exit-of, by-registry}
 
 -- What a case says of a call.

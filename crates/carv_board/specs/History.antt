@@ -13,12 +13,12 @@ use Rattle.carv_area.specs.Table
 use Rattle.carv_area.specs.Table.{Row, at, alter, put, pick, passes, Rising, test}
 use Rattle.carv_budget.specs.Account as account
 use Rattle.carv_budget.specs.Laws.{second}
-use Rattle.carv_objects.specs.Answer.{asked}
-use Rattle.carv_objects.specs.Registry.{Registry, is-budget, account-of}
-use Rattle.carv_objects.specs.SoundFacts as registry-facts
-use Rattle.carv_objects.specs.Kept as registry-calls
-use Rattle.carv_objects.specs.Book as objects
-use Rattle.carv_objects.specs.History as registry-history
+use Rattle.carv_registry.specs.Reply.{asked}
+use Rattle.carv_registry.specs.Registry.{Registry, is-budget, account-of}
+use Rattle.carv_registry.specs.SoundFacts as registry-facts
+use Rattle.carv_registry.specs.Kept as registry-calls
+use Rattle.carv_registry.specs.Book as objects
+use Rattle.carv_registry.specs.History as registry-history
 use Rattle.carv_board.specs.declared.Wait.{Wait}
 use Rattle.carv_board.specs.declared.Payer.{Payer}
 use Rattle.carv_board.specs.declared.Results.{Results}

@@ -11,10 +11,10 @@ use borrow.Author.Tests.{eqb-true, ltb-true, not-true}
 use Rattle.carv_area.specs.Table
 use Rattle.carv_area.specs.Table.{at, alter, put, pick, test}
 use Rattle.carv_budget.specs.Account.{period}
-use Rattle.carv_objects.specs.Answer.{asked}
-use Rattle.carv_objects.specs.Registry as registry
-use Rattle.carv_objects.specs.SoundFacts as objects
-use Rattle.carv_objects.specs.Kept as objects-kept
+use Rattle.carv_registry.specs.Reply.{asked}
+use Rattle.carv_registry.specs.Registry as registry
+use Rattle.carv_registry.specs.SoundFacts as objects
+use Rattle.carv_registry.specs.Kept as objects-kept
 use Rattle.carv_board.specs.declared.Context.{Context}
 use Rattle.carv_board.specs.declared.Results.{Results}
 use Rattle.carv_board.specs.declared.Exit.{Exit}

@@ -15,13 +15,13 @@ use Rattle.carv_budget.specs.declared.Account.{Account}
 use Rattle.carv_budget.specs.Account as account
 use Rattle.carv_budget.specs.Laws.{first, renew-twice}
 use Rattle.carv_budget.specs.Refines.{refill-renews, charge-cpu-by}
-use Rattle.carv_objects.specs.declared.Entry.{Entry}
-use Rattle.carv_objects.specs.Answer.{refuse, accept, pays, figures, charge}
-use Rattle.carv_objects.specs.Registry as registry
-use Rattle.carv_objects.specs.Registry.{Registry, or-missing, entry, is-budget, account-of, on-account}
-use Rattle.carv_objects.specs.Rust as objects
-use Rattle.carv_objects.specs.Refines as objects-refines
-use Rattle.carv_objects.specs.Refines.{alter-known, reply-of, cpu-reply-of, an-id, nothing, a-renewal}
+use Rattle.carv_registry.specs.declared.Entry.{Entry}
+use Rattle.carv_registry.specs.Reply.{refuse, accept, pays, figures, charge}
+use Rattle.carv_registry.specs.Registry as registry
+use Rattle.carv_registry.specs.Registry.{Registry, or-missing, entry, is-budget, account-of, on-account}
+use Rattle.carv_registry.specs.Rust as objects
+use Rattle.carv_registry.specs.Refines as objects-refines
+use Rattle.carv_registry.specs.Refines.{alter-known, reply-of, cpu-reply-of, an-id, nothing, a-renewal}
 use Rattle.carv_board.specs.declared.Wait.{Wait}
 use Rattle.carv_board.specs.declared.Payer.{Payer}
 use Rattle.carv_board.specs.declared.Context.{Context}
@@ -365,7 +365,7 @@ exit-of-rust i b = ap (λ (x : Option ℕ). accept {A = Value} (some (exit-cause
 pub opening-rust : (cpu memory : ℕ) → cpu ≤ account.period → s01.opening cpu memory ≡ rust.new cpu memory
 opening-rust cpu memory h = rw (objects-refines.opening-rust cpu memory h)
 
--- A call of the registry answers and leaves on the board what its Rust does: the theorems of carv_objects/specs/Refines.antt, lifted.
+-- A call of the registry answers and leaves on the board what its Rust does: the theorems of carv_registry/specs/Refines.antt, lifted.
 
 pub on-registry-rust : (a c : registry.Answers) (b : Board) → a ≡ c → on-registry a b ≡ on-registry c b
 on-registry-rust a c b q = ap (λ (x : registry.Answers). on-registry x b) q

@@ -9,8 +9,8 @@ use lib.ListN.{length, drop}
 use Rattle.carv_area.specs.Table.{at, alter, erase, put, pick}
 use Rattle.carv_budget.specs.declared.Account.{Account}
 use Rattle.carv_budget.specs.Rust as budget
-use Rattle.carv_objects.specs.Registry.{Registry}
-use Rattle.carv_objects.specs.Rust as objects
+use Rattle.carv_registry.specs.Registry.{Registry}
+use Rattle.carv_registry.specs.Rust as objects
 use Rattle.carv_board.specs.declared.Wait.{Wait}
 use Rattle.carv_board.specs.declared.Context.{Context}
 use Rattle.carv_board.specs.declared.Results.{Results}

@@ -8,10 +8,10 @@ use lib.Dec.{eqb, ltb, leb}
 use lib.ListN.{length, drop}
 use Rattle.carv_area.specs.Table.{Row, at, alter, erase, put, pick}
 use Rattle.carv_budget.specs.Account as account
-use Rattle.carv_objects.specs.Answer.{Reply, accept, ask, _>>_, on}
-use Rattle.carv_objects.specs.Answer as objects
-use Rattle.carv_objects.specs.Registry as registry
-use Rattle.carv_objects.specs.Registry.{Registry, is-budget, account-of}
+use Rattle.carv_registry.specs.Reply.{Reply, accept, ask, _>>_, on}
+use Rattle.carv_registry.specs.Reply as objects
+use Rattle.carv_registry.specs.Registry as registry
+use Rattle.carv_registry.specs.Registry.{Registry, is-budget, account-of}
 use Rattle.carv_board.specs.declared.Wait.{Wait}
 use Rattle.carv_board.specs.declared.Payer.{Payer}
 use Rattle.carv_board.specs.declared.Space.{Space}

@@ -4,8 +4,8 @@ use mathlib.Core.List.{List, [], _∷_}
 use Prim.Native.Nat.{ℕ, _^_}
 use lib.Dec.{eqb, leb}
 use lib.ListN.{length}
-use Rattle.carv_objects.specs.Sound as objects
-use Rattle.carv_objects.specs.Sound.{all, every, rises}
+use Rattle.carv_registry.specs.Sound as objects
+use Rattle.carv_registry.specs.Sound.{all, every, rises}
 use Rattle.carv_board.specs.declared.Thread.{Thread}
 use Rattle.carv_board.specs.Scheduler.{Board, idle, inactive, ready, running, blocked, dead, is, wait-listed, cause-listed, thread, has}
 

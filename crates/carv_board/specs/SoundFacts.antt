@@ -6,7 +6,7 @@ use Prim.Native.Nat.{ℕ, _^_, _≤_}
 use lib.Dec.{eqb}
 use lib.ListN.{length}
 use Rattle.carv_area.specs.Table.{at, Rising}
-use Rattle.carv_objects.specs.SoundFacts as objects
+use Rattle.carv_registry.specs.SoundFacts as objects
 use Rattle.carv_board.specs.declared.Thread.{Thread}
 use Rattle.carv_board.specs.Scheduler.{Board, idle, inactive, ready, running, blocked, dead, is, wait-listed, cause-listed, no-wait, no-payer, no-space, thread, has}
 use Rattle.carv_board.specs.Sound.{member, distinct, each, unpaid}

@@ -10,9 +10,9 @@ use borrow.Author.Tests.{eqb-true, eqb-false, eq-eqb, ne-eqb, leb-true, le-leb, 
 use Rattle.carv_area.specs.Table
 use Rattle.carv_area.specs.Table.{Row, at, test}
 use Rattle.carv_budget.specs.Laws.{first, second}
-use Rattle.carv_objects.specs.Sound.{all}
-use Rattle.carv_objects.specs.SoundLaws as objects
-use Rattle.carv_objects.specs.SoundLaws.{Truths, all-told, all-shown, either, every-told, every-shown, rises-told, rises-shown}
+use Rattle.carv_registry.specs.Sound.{all}
+use Rattle.carv_registry.specs.SoundLaws as objects
+use Rattle.carv_registry.specs.SoundLaws.{Truths, all-told, all-shown, either, every-told, every-shown, rises-told, rises-shown}
 use Rattle.carv_board.specs.declared.Wait.{Wait}
 use Rattle.carv_board.specs.declared.Space.{Space}
 use Rattle.carv_board.specs.declared.Thread.{Thread}

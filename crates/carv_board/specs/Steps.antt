@@ -13,9 +13,9 @@ use Rattle.carv_area.specs.Table
 use Rattle.carv_area.specs.Table.{Row, at, alter, erase, put, test}
 use Rattle.carv_budget.specs.Account as account
 use Rattle.carv_budget.specs.Laws.{first, second}
-use Rattle.carv_objects.specs.Registry.{Registry, is-budget}
-use Rattle.carv_objects.specs.SoundFacts as objects
-use Rattle.carv_objects.specs.Kept as objects-kept
+use Rattle.carv_registry.specs.Registry.{Registry, is-budget}
+use Rattle.carv_registry.specs.SoundFacts as objects
+use Rattle.carv_registry.specs.Kept as objects-kept
 use Rattle.carv_board.specs.declared.Wait.{Wait}
 use Rattle.carv_board.specs.declared.Payer.{Payer}
 use Rattle.carv_board.specs.declared.Context.{Context}

@@ -10,8 +10,8 @@ use borrow.Author.Tests.{eqb-true, eqb-false, eq-eqb, ne-eqb, not-true}
 use Rattle.carv_area.specs.Table
 use Rattle.carv_area.specs.Table.{Row, at, alter, erase, Rising, test}
 use Rattle.carv_budget.specs.Laws.{first, second}
-use Rattle.carv_objects.specs.Registry.{Registry}
-use Rattle.carv_objects.specs.SoundFacts as objects
+use Rattle.carv_registry.specs.Registry.{Registry}
+use Rattle.carv_registry.specs.SoundFacts as objects
 use Rattle.carv_board.specs.declared.Thread.{Thread}
 use Rattle.carv_board.specs.Scheduler.{Board, Choice, idle, inactive, ready, running, blocked, dead, is, wait-of, no-wait, no-payer, fresh, thread, has, become, renew-for, has-time, put-back, choose, switch-to}
 use Rattle.carv_board.specs.Sound.{member, distinct}

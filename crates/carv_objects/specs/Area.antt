@@ -13,12 +13,13 @@ use Rattle.carv_area.specs.Words.{words}
 use Rattle.carv_area.specs.Parts.{part}
 use Rattle.carv_area.specs.Zero.{allZero}
 use Rattle.carv_budget.specs.Account.{period}
-use Rattle.carv_objects.specs.declared.Entry.{Entry}
+use Rattle.carv_registry.specs.declared.Entry.{Entry}
 use Rattle.carv_objects.specs.declared.Answer.{Answer}
 use Rattle.carv_objects.specs.declared.Answer.the-variants.{Done, Refused}
-use Rattle.carv_objects.specs.Answer.{Reply, number, value}
-use Rattle.carv_objects.specs.Registry.{Registry, Answers, opening, refill, has-cpu}
-use Rattle.carv_objects.specs.Sound.{sound}
+use Rattle.carv_registry.specs.Reply.{Reply}
+use Rattle.carv_objects.specs.Answer.{number, value}
+use Rattle.carv_registry.specs.Registry.{Registry, Answers, opening, refill, has-cpu}
+use Rattle.carv_registry.specs.Sound.{sound}
 
 -- the first word, and the table behind it
 unfoldable pub head : List ℕ → List ℕ

@@ -13,8 +13,8 @@ use Rattle.carv_area.specs.Words.{words}
 use Rattle.carv_area.specs.WordLaws.{length-words, words-inj}
 use Rattle.carv_area.specs.Parts.{part, length-part, cut, last}
 use Rattle.carv_area.specs.Rows.{Holds, holds-inj}
-use Rattle.carv_objects.specs.declared.Entry.{Entry}
-use Rattle.carv_objects.specs.Registry.{Registry}
+use Rattle.carv_registry.specs.declared.Entry.{Entry}
+use Rattle.carv_registry.specs.Registry.{Registry}
 use Rattle.carv_objects.specs.Area.{head, table, fields, decode, sound-area}
 use Rattle.carv_objects.specs.AreaLaws.{wide, table-size, sound-formed}
 

@@ -19,11 +19,11 @@ use Rattle.carv_area.specs.Zero.{allZero, all-zero, zeros-zero}
 use Rattle.carv_area.specs.Rows.{Holds, flat, hold, length-flat, getD-flat, holds-word}
 use Rattle.carv_area.specs.Stored.{Stored, stored, rows-are}
 use Rattle.carv_budget.specs.Laws.{first, second}
-use Rattle.carv_objects.specs.declared.Entry.{Entry}
-use Rattle.carv_objects.specs.Registry.{Registry}
-use Rattle.carv_objects.specs.Sound.{sound}
-use Rattle.carv_objects.specs.SoundFacts.{Sound}
-use Rattle.carv_objects.specs.SoundLaws.{sound-told, sound-shown}
+use Rattle.carv_registry.specs.declared.Entry.{Entry}
+use Rattle.carv_registry.specs.Registry.{Registry}
+use Rattle.carv_registry.specs.Sound.{sound}
+use Rattle.carv_registry.specs.SoundFacts.{Sound}
+use Rattle.carv_registry.specs.SoundLaws.{sound-told, sound-shown}
 use Rattle.carv_objects.specs.Area.{table, fields, row-at, rows-in, decode, sound-area, Is}
 
 -- a row has 11 words

@@ -22,8 +22,8 @@ use Rattle.carv_area.specs.declared.Found.{Found}
 use Rattle.carv_area.specs.declared.Found.the-variants.{At, Nothing}
 use Rattle.carv_budget.specs.declared.Account.{Account}
 use Rattle.carv_budget.specs.Laws.{both, not-first, not-second, first, second}
-use Rattle.carv_objects.specs.declared.Entry.{Entry}
-use Rattle.carv_objects.specs.Registry.{Registry, or-missing, found, entry, has, is-budget, on-account, on-charge, budget, object, add, has-place, has-next}
+use Rattle.carv_registry.specs.declared.Entry.{Entry}
+use Rattle.carv_registry.specs.Registry.{Registry, or-missing, found, entry, has, is-budget, on-account, on-charge, budget, object, add, has-place, has-next}
 use Rattle.carv_objects.specs.Area.{head, table, fields, row-at, rows-in, decode}
 use Rattle.carv_objects.specs.Rows.{row, no-row, wide, set-row, row-at-is, rows-keyed, rows-located, row-room, row-written, row-appended}
 use Rattle.carv_objects.specs.Formed.{WellFormed, Leaves, leaves-as, length-head, head-written, table-written}

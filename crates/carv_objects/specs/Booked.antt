@@ -13,7 +13,8 @@ use Rattle.carv_budget.specs.declared.Outcome.{Outcome}
 use Rattle.carv_budget.specs.declared.CarveOut.{CarveOut}
 use Rattle.carv_budget.specs.Account as account
 use Rattle.carv_objects.specs.declared.Answer as objects
-use Rattle.carv_objects.specs.Answer.{number, value, renewed}
+use Rattle.carv_registry.specs.Reply.{renewed}
+use Rattle.carv_objects.specs.Answer.{number, value}
 use Rattle.carv_objects.specs.declared.Answer.the-variants as answer
 use Rattle.carv_objects.specs.declared.accounts.Booked.{Booked}
 use Rattle.carv_objects.specs.declared.accounts.Booked.the-variants as booked

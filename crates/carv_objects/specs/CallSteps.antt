@@ -23,23 +23,24 @@ use Rattle.carv_area.specs.declared.Found.the-variants.{At, Nothing}
 use Rattle.carv_budget.specs.declared.Account.{Account}
 use Rattle.carv_budget.specs.Account as account
 use Rattle.carv_budget.specs.Laws.{not-second, return-sound, sound-told}
-use Rattle.carv_objects.specs.declared.Entry.{Entry}
+use Rattle.carv_registry.specs.declared.Entry.{Entry}
 use Rattle.carv_objects.specs.declared.Answer.{Answer}
 use Rattle.carv_objects.specs.declared.Answer.the-variants.{Done, Refused}
-use Rattle.carv_objects.specs.Answer.{accept, number, value}
-use Rattle.carv_objects.specs.Registry.{Registry, found, entry, has, account-of, payer-of, pays-in, pays-for, on-account, on-charge, budget, object, drop, charge-more, uncharge, remove}
-use Rattle.carv_objects.specs.SoundFacts.{Sound}
-use Rattle.carv_objects.specs.SoundLaws.{account-sound}
-use Rattle.carv_objects.specs.Steps.{ObjectEntry, budget-entry, at-on-account}
-use Rattle.carv_objects.specs.Kept as kept
-use Rattle.carv_objects.specs.Refines.{alter-known, return-blank}
+use Rattle.carv_registry.specs.Reply.{accept}
+use Rattle.carv_objects.specs.Answer.{number, value}
+use Rattle.carv_registry.specs.Registry.{Registry, found, entry, has, account-of, payer-of, pays-in, pays-for, on-account, on-charge, budget, object, drop, charge-more, uncharge, remove}
+use Rattle.carv_registry.specs.SoundFacts.{Sound}
+use Rattle.carv_registry.specs.SoundLaws.{account-sound}
+use Rattle.carv_registry.specs.Steps.{ObjectEntry, budget-entry, at-on-account}
+use Rattle.carv_registry.specs.Kept as kept
+use Rattle.carv_registry.specs.Refines.{alter-known, return-blank}
 use Rattle.carv_objects.specs.Area.{table, decode, sound-area, Serves}
 use Rattle.carv_objects.specs.Rows.{no-row, row-at-is}
 use Rattle.carv_objects.specs.Formed.{WellFormed, Leaves, leaves-as}
 use Rattle.carv_objects.specs.AreaExact.{part-bytes}
 use Rattle.carv_objects.specs.AreaSteps.{with-rows, here-entry, here-has, here-budget, here-other}
 use Rattle.carv_objects.specs.Calls.{area-sound, area-formed, refused, answered, budget-by, account-here, kept-at}
-use Rattle.carv_objects.specs.Questions as asks
+use Rattle.carv_registry.specs.Questions as asks
 
 module _ {A : Type 0} where
   -- an alteration moves no id

@@ -12,7 +12,7 @@ use Rattle.carv_budget.specs.Account as account
 use borrow.Author.Tests.{leb-true}
 use Rattle.carv_budget.specs.Laws.{charge-sound}
 use Rattle.carv_budget.specs.Refines.{renew-charged}
-use Rattle.carv_objects.specs.declared.Entry.{Entry}
+use Rattle.carv_registry.specs.declared.Entry.{Entry}
 use Rattle.carv_objects.specs.declared.Answer.{Answer}
 use Rattle.carv_objects.specs.declared.Answer.the-variants.{Id, Refused}
 use Rattle.carv_objects.specs.declared.accounts.Booked.{Booked}
@@ -20,11 +20,12 @@ use Rattle.carv_objects.specs.declared.accounts.Booked.the-variants as b
 use Rattle.carv_objects.specs.declared.accounts.Carved.{Carved}
 use Rattle.carv_objects.specs.declared.accounts.Carved.the-variants as carved
 use Rattle.carv_objects.specs.Booked.{Books, Carves}
-use Rattle.carv_objects.specs.Answer.{Reply, refuse, accept, number, value}
-use Rattle.carv_objects.specs.Registry.{Registry, Answers, account-of, on-account, on-charge, budget, object, add, plain, carved as carved-entry, has-place, has-next}
-use Rattle.carv_objects.specs.SoundFacts.{Sound}
-use Rattle.carv_objects.specs.SoundLaws.{account-sound}
-use Rattle.carv_objects.specs.Refines.{alter-known}
+use Rattle.carv_registry.specs.Reply.{Reply, refuse, accept}
+use Rattle.carv_objects.specs.Answer.{number, value}
+use Rattle.carv_registry.specs.Registry.{Registry, Answers, account-of, on-account, on-charge, budget, object, add, plain, carved as carved-entry, has-place, has-next}
+use Rattle.carv_registry.specs.SoundFacts.{Sound}
+use Rattle.carv_registry.specs.SoundLaws.{account-sound}
+use Rattle.carv_registry.specs.Refines.{alter-known}
 use Rattle.carv_objects.specs.Area.{decode, sound-area, Is, Serves}
 use Rattle.carv_objects.specs.AreaLaws.{sound-formed, formed-sound}
 use Rattle.carv_objects.specs.Rows.{no-row}

@@ -13,17 +13,17 @@ use Rattle.carv_budget.specs.declared.Account.{Account}
 use Rattle.carv_budget.specs.declared.Outcome.{Outcome}
 use Rattle.carv_budget.specs.Account as account
 use Rattle.carv_budget.specs.Laws.{both, not-first, not-second, renew-twice, renew-sound}
-use Rattle.carv_objects.specs.declared.Entry.{Entry}
-use Rattle.carv_objects.specs.Registry.{Registry, Answers, or-missing, entry, is-budget, account-of, on-account, budget, refill, has-cpu, charge-most}
-use Rattle.carv_objects.specs.SoundFacts.{Sound}
-use Rattle.carv_objects.specs.Kept.{refill-kept, charge-most-kept}
+use Rattle.carv_registry.specs.declared.Entry.{Entry}
+use Rattle.carv_registry.specs.Registry.{Registry, Answers, or-missing, entry, is-budget, account-of, on-account, budget, refill, has-cpu, charge-most}
+use Rattle.carv_registry.specs.SoundFacts.{Sound}
+use Rattle.carv_registry.specs.Kept.{refill-kept, charge-most-kept}
 use Rattle.carv_objects.specs.Area.{decode, sound-area, Is, Renews}
 use Rattle.carv_objects.specs.Rows.{no-row}
 use Rattle.carv_objects.specs.Formed.{Leaves, leaves-as}
 use Rattle.carv_objects.specs.AreaSteps.{here-entry}
 use Rattle.carv_objects.specs.Booked.{spend-is}
 use Rattle.carv_objects.specs.Calls.{area-sound, is-area, budget-by}
-use Rattle.carv_objects.specs.Questions.{refill-missing, refill-done}
+use Rattle.carv_registry.specs.Questions.{refill-missing, refill-done}
 
 -- the lesser of two
 pub least-first : (x y : ℕ) → x < y → x ≡ min x y

@@ -6,7 +6,7 @@ use Prim.Native.Nat.{ℕ}
 use borrow.Author.Tests.{not-true, not-false}
 use Rattle.carv_objects.specs.declared.Answer.{Answer}
 use Rattle.carv_objects.specs.declared.Answer.the-variants.{Refused}
-use Rattle.carv_objects.specs.Registry.{Registry, Answers}
+use Rattle.carv_registry.specs.Registry.{Registry, Answers}
 use Rattle.carv_objects.specs.Area.{sound-area, Serves, Answered}
 
 -- the answer b of `is_sound`

@@ -9,8 +9,8 @@ use Rattle.carv_area.specs.Table.{Row, Rising}
 use Rattle.carv_area.specs.Words.{words}
 use Rattle.carv_area.specs.Parts.{part, putPart, length-part, length-put, part-same, part-before, part-after}
 use Rattle.carv_area.specs.Stored.{Stored}
-use Rattle.carv_objects.specs.declared.Entry.{Entry}
-use Rattle.carv_objects.specs.Registry.{Registry}
+use Rattle.carv_registry.specs.declared.Entry.{Entry}
+use Rattle.carv_registry.specs.Registry.{Registry}
 use Rattle.carv_objects.specs.Area.{head, table, fields, rows-in, decode}
 use Rattle.carv_objects.specs.Rows.{rows-in-are}
 

@@ -11,7 +11,7 @@ use Rattle.carv_objects.specs.declared.kinds.Kind.{Kind}
 use Rattle.carv_objects.specs.declared.kinds.Kind.the-variants.{Thread, AddressSpace, Frame, Endpoint, Notification, Budget, Reply, Irq, IrqControl}
 use Rattle.carv_objects.specs.declared.kinds.KindCode.{KindCode}
 use Rattle.carv_objects.specs.declared.kinds.KindCode.the-variants.{Listed, Unlisted}
-use Rattle.carv_objects.specs.Registry.{listed, bytes-of, creatable, needs-backing}
+use Rattle.carv_registry.specs.Registry.{listed, bytes-of, creatable, needs-backing}
 
 abbrev pub code : Kind → ℕ
 code Thread = 1

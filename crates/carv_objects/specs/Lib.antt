@@ -1,17 +1,6 @@
--- The root of the crate's definitions. What a reader must believe: Answer, Registry, Kinds, Sound, Area, Rust, Book. The others are theorems on these.
+-- The root of the crate's definitions. What a reader must believe, beside carv_registry's: Answer, Kinds, Area. The others are theorems on these.
 pub mod Answer
-pub mod Registry
 pub mod Kinds
-pub mod Rust
-pub mod Sound
-pub mod SoundFacts
-pub mod SoundLaws
-pub mod Steps
-pub mod Kept
-pub mod Refines
-pub mod Book
-pub mod History
-pub mod Demand2
 pub mod Area
 pub mod Rows
 pub mod Formed
@@ -24,9 +13,7 @@ pub mod SoundBridge
 pub mod AreaExact
 pub mod Booked
 pub mod Calls
-pub mod Questions
 pub mod CallSteps
 pub mod Cpu
 pub mod Opening
 pub mod Entry
-pub mod Edges

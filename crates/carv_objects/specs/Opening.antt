@@ -17,10 +17,10 @@ use Rattle.carv_area.specs.Rows.{Holds, flat, hold}
 use Rattle.carv_area.specs.Stored.{Stored, stored}
 use Rattle.carv_budget.specs.declared.Account.{Account}
 use Rattle.carv_budget.specs.Account.{period, fresh}
-use Rattle.carv_objects.specs.declared.Entry.{Entry}
+use Rattle.carv_registry.specs.declared.Entry.{Entry}
 use Rattle.carv_objects.specs.declared.Answer.the-variants.{Done, Refused}
-use Rattle.carv_objects.specs.Registry.{Registry, opening}
-use Rattle.carv_objects.specs.Kept.{opening-sound}
+use Rattle.carv_registry.specs.Registry.{Registry, opening}
+use Rattle.carv_registry.specs.Kept.{opening-sound}
 use Rattle.carv_objects.specs.Area.{head, table, fields, rows-in, decode, Opened}
 use Rattle.carv_objects.specs.AreaLaws.{formed-is}
 use Rattle.carv_objects.specs.Rows.{row, wide, rows-in-are}

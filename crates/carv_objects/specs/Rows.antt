@@ -16,8 +16,8 @@ use Rattle.carv_area.specs.Lookup as lookup
 use Rattle.carv_area.specs.Lookup.{Located}
 use Rattle.carv_area.specs.declared.Found.{Found}
 use Rattle.carv_budget.specs.declared.Account.{Account}
-use Rattle.carv_objects.specs.declared.Entry.{Entry}
-use Rattle.carv_objects.specs.Registry.{missing}
+use Rattle.carv_registry.specs.declared.Entry.{Entry}
+use Rattle.carv_registry.specs.Registry.{missing}
 use Rattle.carv_objects.specs.Area.{fields, row-at, rows-in}
 
 pub wide : (r : Row Entry) → length (fields r) ≡ 11

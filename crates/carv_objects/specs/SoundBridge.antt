@@ -7,23 +7,23 @@ use mathlib.Core.List.{List}
 use Prim.Native.Nat.{ℕ, zero, suc, _+_, _-_, _*_, _≤_, _<_}
 use native.Mathlib.Nat.{eq-or-lt-of-le}
 use native.Mathlib.Omega.{arith}
-use lib.Dec.{eqb, leb}
+use lib.Dec.{eqb}
 use lib.ListN.{length, getD, drop}
-use borrow.Author.Tests.{eqb-true, eqb-false, eq-eqb, ne-eqb, leb-true, le-leb}
+use borrow.Author.Tests.{eqb-true, eqb-false, eq-eqb, ne-eqb}
 use Rattle.carv_area.specs.Table as Table
 use Rattle.carv_area.specs.Table.{Row, at, Rising, test}
 use Rattle.carv_area.specs.Lists.{lt-or-ge, tab, length-tab}
 use Rattle.carv_area.specs.Words.{words}
 use Rattle.carv_area.specs.Zero.{allZero}
+use Rattle.carv_budget.specs.Laws.{first, second}
 use Rattle.carv_budget.specs.declared.Account.{Account}
 use Rattle.carv_budget.specs.Account.{blank}
 use Rattle.carv_budget.specs.Laws as account-laws
-use Rattle.carv_budget.specs.Laws.{first, second}
-use Rattle.carv_objects.specs.declared.Entry.{Entry}
-use Rattle.carv_objects.specs.Registry.{Registry, or-missing}
-use Rattle.carv_objects.specs.Sound.{kind-at, sound}
-use Rattle.carv_objects.specs.SoundFacts.{Sound, SoundEntry}
-use Rattle.carv_objects.specs.SoundLaws.{sound-told, sound-shown, account-sound}
+use Rattle.carv_registry.specs.declared.Entry.{Entry}
+use Rattle.carv_registry.specs.Registry.{Registry, or-missing}
+use Rattle.carv_registry.specs.Sound.{kind-at, sound}
+use Rattle.carv_registry.specs.SoundFacts.{Sound, SoundEntry}
+use Rattle.carv_registry.specs.SoundLaws.{sound-told, sound-shown, account-sound}
 use Rattle.carv_objects.specs.Area.{table, row-at, rows-in, decode, sound-area}
 use Rattle.carv_objects.specs.SoundWalk.{Tells, id-at, entry-at, Plain, Owned, Rise, Whole, SoundTable}
 use Rattle.carv_objects.specs.SoundTurn.{front-rise, in-place}
@@ -135,8 +135,7 @@ module _ (w : List ℕ) (next : ℕ) (S : Sound (registry-in w next)) where
       let kind = entry-at w k .kind in
       let b : (entry-at w k .kind ≡ 6 → ⊥) → entry-at w k .account ≡ blank = λ ne. F .plain (ne-eqb kind 6 ne) in
       record {
-        low = leb-true 1 kind (first (leb 1 kind) (leb kind 9) (F .code));
-        high = leb-true kind 9 (second (leb 1 kind) (leb kind 9) (F .code));
+        code = F .code;
         sound = account-sound F;
         no-cpu = λ ne. ap (λ (a : Account). a .«cpu_allowance») (b ne);
         no-memory = λ ne. ap (λ (a : Account). a .«memory_limit») (b ne);
@@ -220,7 +219,7 @@ module _ (w : List ℕ) (next : ℕ) (W : Whole w next) (few : getD w 0 0 ≤ 51
       let at-0 : (i : ℕ) → i < getD w 0 0 → id-at w i ≡ 1 → i ≡ 0 = λ i h e.
       ⊎-elim (λ (g : i < 1). omega arith) (λ (g : 1 ≤ i). absurd (omega (arith, order 0 i g h, one))) (lt-or-ge i 1) in
       record {
-        code = rw (le-leb 1 (entry-at w k .kind) (p .low), le-leb (entry-at w k .kind) 9 (p .high));
+        code = p .code;
         plain = clean k l;
         root = λ e. (let f = o .is .first (at-0 k l e) .1 in
             (rw f at (o .is .kind), omega (arith, o .is .payer, ap (id-at w) f)));

@@ -17,8 +17,8 @@ use Rattle.carv_area.specs.Lists.{lt-or-ge, apart, same-or-not, tab}
 use Rattle.carv_area.specs.Moves.{zeros}
 use Rattle.carv_area.specs.Zero.{allZero, all-zero, zeros-zero}
 use Rattle.carv_budget.specs.declared.Account.{Account}
-use Rattle.carv_objects.specs.declared.Entry.{Entry}
-use Rattle.carv_objects.specs.Sound.{is-child, charge-by, memory-by, cpu-by}
+use Rattle.carv_registry.specs.declared.Entry.{Entry}
+use Rattle.carv_registry.specs.Sound.{is-child, charge-by, memory-by, cpu-by}
 use Rattle.carv_objects.specs.Area.{row-at}
 use Rattle.carv_objects.specs.SoundWalk.{id-at, entry-at, Plain, Paid, Front, Left, Rise, Walk, Sums, Whole, Took, ReservedFor, used, memory-reserved, cpu-reserved}
 

@@ -9,8 +9,9 @@ use Rattle.carv_area.specs.Lists.{tab}
 use Rattle.carv_area.specs.Zero.{allZero}
 use Rattle.carv_budget.specs.declared.Account.{Account}
 use Rattle.carv_budget.specs.Account as account
-use Rattle.carv_objects.specs.declared.Entry.{Entry}
-use Rattle.carv_objects.specs.Sound.{charge-by, memory-by, cpu-by}
+use Rattle.carv_registry.specs.declared.Entry.{Entry}
+use Rattle.carv_registry.specs.Registry.{listed}
+use Rattle.carv_registry.specs.Sound.{charge-by, memory-by, cpu-by}
 use Rattle.carv_objects.specs.Area.{row-at}
 
 -- the answer r says whether P
@@ -27,8 +28,7 @@ entry-at w i = row-at w i .it
 
 -- what an entry must be by itself. Where it is no budget, the other figures of its account are below these three
 pub record Plain (e : Entry) : Type 0 where
-  pub low : 1 ≤ e .kind
-  pub high : e .kind ≤ 9
+  pub code : listed (e .kind) ≡ true
   pub sound : account.sound (e .account) ≡ true
   pub no-cpu : (e .kind ≡ 6 → ⊥) → e .account .«cpu_allowance» ≡ 0
   pub no-memory : (e .kind ≡ 6 → ⊥) → e .account .«memory_limit» ≡ 0

@@ -1,8 +1,8 @@
 // The registry's area: its parts, each lent to one function of the table. docs/LAYOUT.md has the layout.
-use crate::Entry;
 use crate::rows;
 use carv_area::Found;
 use carv_budget::Account;
+use carv_registry::Entry;
 ghost use mathlib.Core.Path.{_≡_};
 ghost use mathlib.Core.Bool.{true, _&&_};
 ghost use mathlib.Core.List.{[], _∷_, _++_};
@@ -11,7 +11,7 @@ ghost use lib.ListN.{length, getD, set};
 ghost use Rattle.carv_area.specs.Table.{Rising};
 ghost use Rattle.carv_area.specs.Rows.{removeAt};
 ghost use Rattle.carv_area.specs.Lookup.{Located, Here};
-ghost use Rattle.carv_objects.specs.Registry.{has-place, has-next, budget, object, add};
+ghost use Rattle.carv_registry.specs.Registry.{has-place, has-next, budget, object, add};
 ghost use Rattle.carv_objects.specs.Area.{decode};
 ghost use Rattle.carv_objects.specs.Rows.{row, no-row};
 ghost use Rattle.carv_objects.specs.Formed.{WellFormed, Leaves};

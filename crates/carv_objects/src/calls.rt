@@ -1,6 +1,5 @@
 // The calls on a sound area: document 01's questions in their order, then the step. lib.rt asks question 1 in front of each.
 use crate::Answer;
-use crate::Entry;
 use crate::Kind;
 use crate::KindCode;
 use crate::accounts;
@@ -9,6 +8,7 @@ use crate::accounts::Carved;
 use crate::area;
 use carv_area::Found;
 use carv_budget::Account;
+use carv_registry::Entry;
 ghost use mathlib.Core.Path.{_≡_};
 ghost use mathlib.Core.Bool.{true, not, _&&_, _||_};
 ghost use Prim.Native.Nat.{_≤_, _<_};
@@ -18,7 +18,7 @@ ghost use Rattle.carv_area.specs.Rows.{removeAt};
 ghost use Rattle.carv_area.specs.Lookup.{Here};
 ghost use Rattle.carv_budget.specs.Account.{sound, renew};
 ghost use Rattle.carv_objects.specs.declared.Answer.the-variants as answer;
-ghost use Rattle.carv_objects.specs.Registry.{listed, has, object, pays-for, has-place, has-next, budget, add, drop, create, insert, create-budget, charge-more, uncharge, remove, refill, charge-cpu, pays-for-anything, read-account, charge-of};
+ghost use Rattle.carv_registry.specs.Registry.{has, object, pays-for, has-place, has-next, budget, add, drop, create, insert, create-budget, charge-more, uncharge, remove, refill, charge-cpu, pays-for-anything, read-account, charge-of};
 ghost use Rattle.carv_objects.specs.Kinds.{kind-needs-backing};
 ghost use Rattle.carv_objects.specs.Booked.{renewal};
 ghost use Rattle.carv_objects.specs.Area.{decode, sound-area, Serves};
@@ -30,18 +30,6 @@ ghost use Rattle.carv_objects.specs.AreaSteps.{with-rows};
 const BUDGET: u64 = 6;
 
 const ROOT: u64 = 1;
-
-fn is_listed(code: u64) -> bool
-    ensures { λ r. ⌜ r ≡ listed code ⌝ }
-{
-    if code < 1 {
-        return false;
-    }
-    if code > 9 {
-        return false;
-    }
-    true
-}
 
 // Is the backing there, or none needed?
 fn has_backing(kind: Kind, backing: bool) -> bool
@@ -81,7 +69,7 @@ pub fn insert(a: &mut [u8], code: u64, payer: u64, bytes: u64) -> Answer
     requires { ⌜ sound-area (now a) ≡ true ⌝ }
     ensures { λ r. ⌜ Serves (insert code payer bytes) (now (a .entry)) r (now (a .exit)) ⌝ }
 {
-    if !is_listed(code) {
+    if !Kind::is_listed(code) {
         return Answer::Refused(4);
     }
     if code == BUDGET {

@@ -1,5 +1,6 @@
 // The kinds of objects, of carv-abi, with the bytes that each is charged.
 ghost use mathlib.Core.Path.{_≡_};
+ghost use Rattle.carv_registry.specs.Registry.{listed};
 ghost use Rattle.carv_objects.specs.Kinds.{code, kind-bytes, kind-creatable, kind-needs-backing, Named};
 
 pub enum Kind {
@@ -38,6 +39,19 @@ impl Kind {
     pub const IRQ_BYTES: u64 = 64;
 
     pub const IRQ_CONTROL_BYTES: u64 = 64;
+
+    // Is it the code of a kind?
+    pub fn is_listed(n: u64) -> bool
+        ensures { λ r. ⌜ r ≡ listed n ⌝ }
+    {
+        if n < 1 {
+            return false;
+        }
+        if n > 9 {
+            return false;
+        }
+        true
+    }
 
     pub fn from_code(n: u64) -> KindCode
         ensures { λ r. ⌜ Named n r ⌝ }

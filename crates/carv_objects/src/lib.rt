@@ -14,16 +14,8 @@ pub use kinds::Kind;
 pub use kinds::KindCode;
 pub use opening::open;
 pub use sound::is_sound;
-ghost use Rattle.carv_objects.specs.Registry.{create, insert, create-budget, charge-more, uncharge, remove, refill, charge-cpu, pays-for-anything, read-account, charge-of};
+ghost use Rattle.carv_registry.specs.Registry.{create, insert, create-budget, charge-more, uncharge, remove, refill, charge-cpu, pays-for-anything, read-account, charge-of};
 ghost use Rattle.carv_objects.specs.Area.{Answered, Opened};
-
-// What stands under an id. An entry that is no budget has a blank account.
-pub struct Entry {
-    pub kind: u64,
-    pub payer: u64,
-    pub charge: u64,
-    pub account: Account,
-}
 
 // What a call answers: specs/Answer.antt gives document 01's number and the values.
 pub enum Answer {

@@ -1,11 +1,11 @@
 // An opening: one object, the root budget, in an area of the right length.
 use crate::Answer;
-use crate::Entry;
 use crate::accounts;
 use crate::accounts::Booked;
 use crate::area;
 use crate::rows;
 use carv_budget::Account;
+use carv_registry::Entry;
 ghost use mathlib.Core.Path.{_≡_};
 ghost use mathlib.Core.List.{[], _∷_};
 ghost use lib.ListN.{length};

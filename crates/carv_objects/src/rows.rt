@@ -1,6 +1,6 @@
 // The registry's table: one object in each row of 11 words.
-use crate::Entry;
 use carv_budget::Account;
+use carv_registry::Entry;
 ghost use mathlib.Core.Path.{_≡_};
 ghost use mathlib.Core.List.{[], _∷_, _++_};
 ghost use Prim.Native.Nat.{_+_, _*_, _≤_, _<_};

@@ -9,8 +9,9 @@ ghost use Rattle.carv_area.specs.Words.{words};
 ghost use Rattle.carv_area.specs.Zero.{allZero};
 ghost use Rattle.carv_objects.specs.Area.{decode, sound-area};
 ghost use Rattle.carv_objects.specs.SoundWalk.{Tells, entry-at, Plain, Rise, Place, Owner, Front, Walk, Whole, Turned, Took, ReservedFor, SoundTable};
-use super::Entry;
+use crate::kinds::Kind;
 use carv_budget::Account;
+use carv_registry::Entry;
 
 // The entry at place i of the table t.
 fn entry_at(t: &[u8], i: usize) -> Entry
@@ -38,10 +39,7 @@ fn entry_at(t: &[u8], i: usize) -> Entry
 fn is_plain(e: Entry) -> bool
     ensures { λ r. ⌜ Tells r (Plain e) ⌝ }
 {
-    if e.kind < 1 {
-        return false;
-    }
-    if e.kind > 9 {
+    if !Kind::is_listed(e.kind) {
         return false;
     }
     let a = e.account;

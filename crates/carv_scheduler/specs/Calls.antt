@@ -3,7 +3,7 @@ use mathlib.Core.Path.{_≡_, sym, ap, _∙_}
 use mathlib.Core.Bool.{true}
 use mathlib.Core.List.{List}
 use Prim.Native.Nat.{ℕ}
-use Rattle.carv_objects.specs.Answer.{refuse}
+use Rattle.carv_registry.specs.Reply.{refuse}
 use Rattle.carv_scheduler.specs.declared.Answer.{Answer}
 use Rattle.carv_scheduler.specs.declared.Answer.the-variants.{Refused}
 use Rattle.carv_scheduler.specs.Answer.{number, value}

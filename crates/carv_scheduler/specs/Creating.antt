@@ -9,11 +9,9 @@ use borrow.Author.Tests.{eqb-true, eqb-false}
 use Rattle.carv_scheduler.specs.declared.Answer.{Answer}
 use Rattle.carv_scheduler.specs.declared.Answer.the-variants.{Done, Registry, NoSwitch, Switch, SwitchToKernel, Ended, EndedNothing, Blocked, NotBlocked, Record, Figure, Cause, NoCause, Refused}
 use Rattle.carv_board.specs.Scheduler.{Board, Answers}
-use Rattle.carv_board.specs.Book.{Call}
 use Rattle.carv_scheduler.specs.Area.{Answered}
 use Rattle.carv_scheduler.specs.Image.{image-size, register-image}
 use Rattle.carv_scheduler.specs.Answer.{number}
-use Rattle.carv_scheduler.specs.C.{reported, Reports, called}
 
 abbrev pub done : Answer → Bool
 done Done = true
@@ -52,21 +50,3 @@ module _ (call : Board → Answers) (a m : List ℕ) where
 
     pub created-refused : d ≡ false → Created call a m r a′ m
     created-refused n = record { size = λ z. absurd (eqb-false (length m) 512 z e); served = λ z. h; image = λ z. rw (← g, ← q, n) }
-
--- the same in C: other than 20 answer words are refused with 1, and nothing changes
-pub record CreatesInC (call : Board → Answers) (a m out : List ℕ) (r : ℕ) (a′ m′ out′ : List ℕ) : Type 0 where
-  pub size : eqb (length out) 20 ≡ false → (r ≡ 1) × (a′ ≡ a) × (m′ ≡ m) × (out′ ≡ out)
-  pub reports : eqb (length out) 20 ≡ true → Reports (λ x b. Created call a m x b m′) out r a′ out′
-
-abbrev pub ExportedWithImage : Call → (a m out : List ℕ) (r : ℕ) (a′ m′ out′ : List ℕ) → Type 0
-ExportedWithImage c = CreatesInC (called c)
-
-module _ (call : Board → Answers) (a m out : List ℕ) where
-  pub c-created-size : (length out ≡ 20 → ⊥) → CreatesInC call a m out 1 a m out
-  c-created-size n = record { size = λ q. (refl, refl, refl, refl); reports = λ q. absurd (n (eqb-true (length out) 20 q)) }
-
-  pub c-created : length out ≡ 20 → (x : Answer) (a′ m′ : List ℕ) → Created call a m x a′ m′ → (r : ℕ) (out′ : List ℕ) → (r ≡ number x) × (out′ ≡ reported x out) → CreatesInC call a m out r a′ m′ out′
-  c-created e x a′ m′ h r out′ p = record {
-    size = λ q. absurd (eqb-false (length out) 20 q e);
-    reports = λ q. record { answer = x; said = h; number = p .0; values = p .1 };
-  }

@@ -9,7 +9,7 @@ use Rattle.carv_area.specs.Table.{Row, Rising}
 use Rattle.carv_area.specs.Words.{words}
 use Rattle.carv_area.specs.Parts.{part, putPart, length-put, part-same, part-before, part-after}
 use Rattle.carv_area.specs.Stored.{Stored, Queue, queue-is}
-use Rattle.carv_objects.specs.Registry.{Registry}
+use Rattle.carv_registry.specs.Registry.{Registry}
 use Rattle.carv_objects.specs.Area as objects
 use Rattle.carv_board.specs.declared.Thread.{Thread}
 use Rattle.carv_board.specs.declared.Exit.{Exit}

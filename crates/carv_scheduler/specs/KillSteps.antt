@@ -16,7 +16,7 @@ use Rattle.carv_area.specs.Keys.{findIn, after}
 use Rattle.carv_area.specs.Lookup.{Here}
 use Rattle.carv_area.specs.declared.Found.{Found}
 use Rattle.carv_area.specs.declared.Found.the-variants.{At, Nothing}
-use Rattle.carv_objects.specs.Answer.{refuse, accept}
+use Rattle.carv_registry.specs.Reply.{refuse, accept}
 use Rattle.carv_board.specs.declared.Thread.{Thread}
 use Rattle.carv_scheduler.specs.declared.Answer.{Answer}
 use Rattle.carv_scheduler.specs.declared.Answer.the-variants.{Ended, EndedNothing, Refused}

@@ -1,4 +1,4 @@
--- The root of the crate's definitions. What a reader must believe, beside carv_board's: Answer, Area, C, Creating, Image, ExitRun. The others are theorems on these.
+-- The root of the crate's definitions. What a reader must believe, beside carv_board's: Answer, Area, Creating, Image, ExitRun. The others are theorems on these.
 pub mod Answer
 pub mod Area
 pub mod Rows
@@ -13,7 +13,6 @@ pub mod RowWords
 pub mod Places
 pub mod CallSteps
 pub mod OnRegistry
-pub mod C
 pub mod Entry
 pub mod Opening
 pub mod Waking
@@ -34,4 +33,3 @@ pub mod SoundQueue
 pub mod SoundLog
 pub mod SoundBridge
 pub mod Creating
-pub mod Demands

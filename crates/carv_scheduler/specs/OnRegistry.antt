@@ -8,9 +8,9 @@ use lib.ListN.{length}
 use Rattle.carv_area.specs.Parts.{part, putPart}
 use Rattle.carv_objects.specs.declared.Answer.{Answer}
 use Rattle.carv_objects.specs.Answer.{number, value}
-use Rattle.carv_objects.specs.Registry.{Registry}
-use Rattle.carv_objects.specs.Registry as registry
-use Rattle.carv_objects.specs.SoundFacts as registry-facts
+use Rattle.carv_registry.specs.Registry.{Registry}
+use Rattle.carv_registry.specs.Registry as registry
+use Rattle.carv_registry.specs.SoundFacts as registry-facts
 use Rattle.carv_objects.specs.Area as registry-area
 use Rattle.carv_objects.specs.Calls as registry-calls
 use Rattle.carv_scheduler.specs.declared.Answer.the-variants as answer

@@ -16,7 +16,7 @@ use Rattle.carv_area.specs.Rows.{Holds, flat, hold}
 use Rattle.carv_area.specs.Stored.{stored, one, wide-one}
 use Rattle.carv_budget.specs.Account.{period}
 use Rattle.carv_objects.specs.declared.Answer as registry-answer
-use Rattle.carv_objects.specs.Registry as registry
+use Rattle.carv_registry.specs.Registry as registry
 use Rattle.carv_objects.specs.Area as registry-area
 use Rattle.carv_scheduler.specs.declared.Answer.the-variants.{Done, Refused}
 use Rattle.carv_board.specs.declared.Thread.{Thread}

@@ -11,7 +11,7 @@ use borrow.Author.Tests.{eq-eqb, ne-eqb, le-leb, lt-leb, not-true, not-false}
 use Rattle.carv_area.specs.Table.{Row, alter, erase}
 use Rattle.carv_area.specs.Rows.{removeAt}
 use Rattle.carv_area.specs.Lookup.{Located, Here, Gone}
-use Rattle.carv_objects.specs.Answer.{refuse, accept}
+use Rattle.carv_registry.specs.Reply.{refuse, accept}
 use Rattle.carv_board.specs.declared.Thread.{Thread}
 use Rattle.carv_scheduler.specs.declared.Answer.{Answer}
 use Rattle.carv_scheduler.specs.declared.Answer.the-variants.{NoSwitch, Switch, SwitchToKernel, Refused}

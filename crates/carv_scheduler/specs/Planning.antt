@@ -14,8 +14,8 @@ use Rattle.carv_area.specs.Parts.{putPart}
 use Rattle.carv_area.specs.Lookup.{Located, Here, Gone}
 use Rattle.carv_area.specs.declared.Found.{Found}
 use Rattle.carv_area.specs.declared.Found.the-variants.{At, Nothing}
-use Rattle.carv_objects.specs.Registry as registry
-use Rattle.carv_objects.specs.Registry.{Registry, has-cpu}
+use Rattle.carv_registry.specs.Registry as registry
+use Rattle.carv_registry.specs.Registry.{Registry, has-cpu}
 use Rattle.carv_objects.specs.Area as objects
 use Rattle.carv_board.specs.declared.Thread.{Thread}
 use Rattle.carv_board.specs.declared.Payer.{Payer}

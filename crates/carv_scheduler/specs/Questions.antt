@@ -7,7 +7,7 @@ use lib.Dec.{eqb}
 use lib.ListN.{length}
 use borrow.Author.Tests.{eq-eqb, ne-eqb, lt-ltb, le-ltb}
 use Rattle.carv_area.specs.Table.{alter, put}
-use Rattle.carv_objects.specs.Answer.{refuse, accept}
+use Rattle.carv_registry.specs.Reply.{refuse, accept}
 use Rattle.carv_board.specs.declared.Context.{Context}
 use Rattle.carv_board.specs.Scheduler.{Board, idle, inactive, running, blocked, is, wait, wait-listed, payer, in-space, fresh, thread, has, become, started, with-threads, join, is-blocked, record-of, create-user-thread, start, block-current, is-blocked-on, read-thread}
 

@@ -9,12 +9,12 @@ use Rattle.carv_area.specs.Table.{test}
 use Rattle.carv_area.specs.Lists.{length-tab}
 use Rattle.carv_area.specs.Words.{words}
 use Rattle.carv_area.specs.Keys.{keys}
-use Rattle.carv_objects.specs.Registry.{Registry}
+use Rattle.carv_registry.specs.Registry.{Registry}
 use Rattle.carv_objects.specs.Area as objects
-use Rattle.carv_objects.specs.Sound as registry
-use Rattle.carv_objects.specs.Sound.{all}
-use Rattle.carv_objects.specs.SoundLaws.{all-told, all-shown, rises-told, rises-shown}
-use Rattle.carv_objects.specs.SoundLaws as registry-laws
+use Rattle.carv_registry.specs.Sound as registry
+use Rattle.carv_registry.specs.Sound.{all}
+use Rattle.carv_registry.specs.SoundLaws.{all-told, all-shown, rises-told, rises-shown}
+use Rattle.carv_registry.specs.SoundLaws as registry-laws
 use Rattle.carv_objects.specs.Calls as registry-calls
 use Rattle.carv_objects.specs.SoundWalk.{Tells}
 use Rattle.carv_board.specs.Scheduler.{Board, cause-listed}

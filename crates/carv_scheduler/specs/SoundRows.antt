@@ -19,7 +19,7 @@ use Rattle.carv_area.specs.Zero.{allZero}
 use Rattle.carv_area.specs.Stored.{Keyed, keyed-of}
 use Rattle.carv_area.specs.Lookup.{ids, Located, located, rising-ids, ids-rising}
 use Rattle.carv_budget.specs.Laws.{first, second}
-use Rattle.carv_objects.specs.Sound.{every}
+use Rattle.carv_registry.specs.Sound.{every}
 use Rattle.carv_board.specs.declared.Thread.{Thread}
 use Rattle.carv_board.specs.Scheduler.{or-fresh, found, thread, has}
 use Rattle.carv_board.specs.Sound.{each}

@@ -7,7 +7,7 @@ use Prim.Native.Nat.{ℕ}
 use lib.Dec.{eqb}
 use borrow.Author.Tests.{eq-eqb, ne-eqb}
 use Rattle.carv_area.specs.Table.{at, test}
-use Rattle.carv_objects.specs.SoundLaws.{either}
+use Rattle.carv_registry.specs.SoundLaws.{either}
 use Rattle.carv_objects.specs.SoundWalk.{Tells}
 use Rattle.carv_board.specs.Scheduler.{idle, ready, running, is, thread}
 use Rattle.carv_board.specs.SoundLaws.{implied, implying}

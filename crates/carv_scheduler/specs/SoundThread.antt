@@ -8,8 +8,8 @@ use lib.Dec.{eqb, leb}
 use borrow.Author.Tests.{eqb-true, eq-eqb, ne-eqb, le-leb, lt-leb}
 use Rattle.carv_area.specs.Table.{test}
 use Rattle.carv_budget.specs.Laws.{first, second}
-use Rattle.carv_objects.specs.Sound.{all}
-use Rattle.carv_objects.specs.SoundLaws.{all-told, all-shown}
+use Rattle.carv_registry.specs.Sound.{all}
+use Rattle.carv_registry.specs.SoundLaws.{all-told, all-shown}
 use Rattle.carv_objects.specs.SoundWalk.{Tells}
 use Rattle.carv_board.specs.declared.Thread.{Thread}
 use Rattle.carv_board.specs.Scheduler.{Board, idle, wait-listed}

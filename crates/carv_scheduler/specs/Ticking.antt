@@ -9,8 +9,8 @@ use lib.ListN.{getD, set}
 use borrow.Author.Tests.{eqb-true, eq-eqb, ne-eqb, le-leb, lt-leb}
 use Rattle.carv_area.specs.Table.{Row, alter, pick}
 use Rattle.carv_area.specs.Lookup.{Here, Gone}
-use Rattle.carv_objects.specs.Answer.{refuse, accept}
-use Rattle.carv_objects.specs.Registry.{Registry, charge-most}
+use Rattle.carv_registry.specs.Reply.{refuse, accept}
+use Rattle.carv_registry.specs.Registry.{Registry, charge-most}
 use Rattle.carv_board.specs.declared.Payer.{Payer}
 use Rattle.carv_board.specs.declared.Thread.{Thread}
 use Rattle.carv_scheduler.specs.declared.Answer.the-variants.{Done}

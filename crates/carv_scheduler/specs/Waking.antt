@@ -12,7 +12,7 @@ use borrow.Author.Tests.{eq-eqb, ne-eqb, le-leb, lt-leb}
 use Rattle.carv_area.specs.Table.{Row, alter, pick, test, Rising}
 use Rattle.carv_area.specs.Lookup.{Here, Gone}
 use Rattle.carv_budget.specs.Laws.{first}
-use Rattle.carv_objects.specs.Answer.{refuse, accept}
+use Rattle.carv_registry.specs.Reply.{refuse, accept}
 use Rattle.carv_board.specs.declared.Results.{Results}
 use Rattle.carv_board.specs.declared.Thread.{Thread}
 use Rattle.carv_scheduler.specs.declared.Answer.the-variants.{Done, Refused}

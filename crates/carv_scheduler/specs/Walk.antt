@@ -13,7 +13,7 @@ use Rattle.carv_area.specs.Rows.{removeAt}
 use Rattle.carv_area.specs.Keys.{after}
 use Rattle.carv_area.specs.declared.Found.{Found}
 use Rattle.carv_area.specs.declared.Found.the-variants.{At, Nothing}
-use Rattle.carv_objects.specs.Registry.{Registry}
+use Rattle.carv_registry.specs.Registry.{Registry}
 use Rattle.carv_board.specs.declared.Thread.{Thread}
 use Rattle.carv_board.specs.Scheduler.{Choice, idle, thread, renew-for, pass-over, choose}
 use Rattle.carv_board.specs.Switching.{eligible}

@@ -1,7 +1,6 @@
 // Threads, the ready queue and the exit log, and the board of these and the registry. After kernel/src/scheduler.rs.
 
 mod area;
-pub mod c;
 mod calls;
 mod exits;
 mod image;
@@ -23,7 +22,7 @@ pub use image::write_image;
 pub use opening::open;
 pub use sound::is_sound;
 ghost use mathlib.Core.Path.{_≡_};
-ghost use Rattle.carv_objects.specs.Registry.{create, insert, create-budget, charge-more, uncharge, remove, refill, charge-cpu, pays-for-anything, read-account, charge-of};
+ghost use Rattle.carv_registry.specs.Registry.{create, insert, create-budget, charge-more, uncharge, remove, refill, charge-cpu, pays-for-anything, read-account, charge-of};
 ghost use Rattle.carv_board.specs.Scheduler.{by-registry, create-user-thread, start, block-current, wake, is-blocked-on, kill, tick, plan, read-thread, read-current, read-switches, exit-of};
 ghost use Rattle.carv_scheduler.specs.Area.{Answered};
 ghost use Rattle.carv_scheduler.specs.Creating.{done, Plain, Created};

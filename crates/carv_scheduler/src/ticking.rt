@@ -12,7 +12,7 @@ ghost use Prim.Native.Nat.{_<_};
 ghost use lib.ListN.{length, getD};
 ghost use Rattle.carv_area.specs.Table.{pick};
 ghost use Rattle.carv_area.specs.Lookup.{Here};
-ghost use Rattle.carv_objects.specs.Registry.{charge-most};
+ghost use Rattle.carv_registry.specs.Registry.{charge-most};
 ghost use Rattle.carv_board.specs.Scheduler.{blocked, is, is-due, with-registry, wake, wake-all, tick};
 ghost use Rattle.carv_scheduler.specs.Area.{decode, sound-area, Is, Serves};
 ghost use Rattle.carv_scheduler.specs.Rows.{no-row};

@@ -6,10 +6,9 @@ use mathlib.Core.List.{List}
 use Prim.Native.Nat.{ℕ, zero, suc, _+_, _*_, _<_}
 use lib.Dec.{eqb}
 use lib.ListN.{replicate}
-use Rattle.carv_objects.specs.Registry.{create, insert, create-budget, charge-more, uncharge, remove, refill, charge-cpu, pays-for-anything, read-account, charge-of}
+use Rattle.carv_registry.specs.Registry.{create, insert, create-budget, charge-more, uncharge, remove, refill, charge-cpu, pays-for-anything, read-account, charge-of}
 use Rattle.carv_board.specs.Scheduler.{by-registry, create-user-thread, start, block-current, wake, is-blocked-on, kill, tick, plan, read-thread, read-current, read-switches, exit-of}
-use Rattle.carv_scheduler.specs.C.{Called, Opens}
-use Rattle.carv_scheduler.specs.Creating.{CreatesInC}
+use Rattle.carv.specs.C.{Called, Opens, CreatesInC}
 use Rattle.replay_board.specs.declared.record.Call.{Call}
 use Rattle.replay_board.specs.Record.{word, call, unwritten, recorded, Tells}
 

@@ -5,14 +5,13 @@ ghost use lib.ListN.{length};
 ghost use Rattle.replay_board.specs.Replay.{NewThread, Made, Agrees};
 use crate::record;
 use crate::record::Call;
-use carv_scheduler::c;
 
 // A new thread, whose register image is not in the records.
 fn create_user_thread(area: &mut [u8], id: u64, budget: u64, stack: bool, out: &mut [u64]) -> u64
     ensures { λ r. ⌜ NewThread id budget stack (now (area .entry)) (now (out .entry)) r (now (area .exit)) (now (out .exit)) ⌝ }
 {
     let mut image = [0u8; 512];
-    c::carv_create_user_thread(area, id, budget, stack, &mut image, out)
+    carv::carv_create_user_thread(area, id, budget, stack, &mut image, out)
 }
 
 // The number that the call answers. Its values stand in the first words of out.
@@ -22,20 +21,20 @@ fn make(area: &mut [u8], call: Call, out: &mut [u64]) -> u64
 {
     let op = call.op;
     match op {
-        1 => c::carv_open(area, call.first, call.second, out),
-        2 => c::carv_create(area, call.first, call.second, call.third == 1, out),
-        3 => c::carv_insert(area, call.first, call.second, call.third, out),
-        4 => c::carv_create_budget(area, call.first, call.second, call.third, call.fourth, out),
-        5 => c::carv_charge_more(area, call.first, call.second, out),
-        6 => c::carv_uncharge(area, call.first, call.second, out),
-        7 => c::carv_remove(area, call.first, out),
-        8 => c::carv_refill(area, call.first, call.second, out),
-        9 => c::carv_charge_cpu(area, call.first, call.second, call.third, out),
-        10 => c::carv_pays_for_anything(area, call.first, out),
-        11 => c::carv_account(area, call.first, out),
-        12 => c::carv_charge_of(area, call.first, out),
+        1 => carv::carv_open(area, call.first, call.second, out),
+        2 => carv::carv_create(area, call.first, call.second, call.third == 1, out),
+        3 => carv::carv_insert(area, call.first, call.second, call.third, out),
+        4 => carv::carv_create_budget(area, call.first, call.second, call.third, call.fourth, out),
+        5 => carv::carv_charge_more(area, call.first, call.second, out),
+        6 => carv::carv_uncharge(area, call.first, call.second, out),
+        7 => carv::carv_remove(area, call.first, out),
+        8 => carv::carv_refill(area, call.first, call.second, out),
+        9 => carv::carv_charge_cpu(area, call.first, call.second, call.third, out),
+        10 => carv::carv_pays_for_anything(area, call.first, out),
+        11 => carv::carv_account(area, call.first, out),
+        12 => carv::carv_charge_of(area, call.first, out),
         13 => create_user_thread(area, call.first, call.second, call.third == 1, out),
-        14 => c::carv_start(
+        14 => carv::carv_start(
             area,
             call.first,
             call.second,
@@ -50,16 +49,16 @@ fn make(area: &mut [u8], call: Call, out: &mut [u64]) -> u64
             call.eleventh,
             out,
         ),
-        15 => c::carv_block_current(area, call.first, call.second, out),
-        16 => c::carv_wake(area, call.first, call.second, call.third, call.fourth, out),
-        17 => c::carv_is_blocked_on(area, call.first, call.second, call.third, out),
-        18 => c::carv_kill(area, call.first, call.second, out),
-        19 => c::carv_tick(area, call.first, out),
-        20 => c::carv_plan(area, call.first, out),
-        21 => c::carv_read_thread(area, call.first, out),
-        22 => c::carv_current(area, out),
-        23 => c::carv_switches(area, out),
-        _ => c::carv_exit_of(area, call.first, out),
+        15 => carv::carv_block_current(area, call.first, call.second, out),
+        16 => carv::carv_wake(area, call.first, call.second, call.third, call.fourth, out),
+        17 => carv::carv_is_blocked_on(area, call.first, call.second, call.third, out),
+        18 => carv::carv_kill(area, call.first, call.second, out),
+        19 => carv::carv_tick(area, call.first, out),
+        20 => carv::carv_plan(area, call.first, out),
+        21 => carv::carv_read_thread(area, call.first, out),
+        22 => carv::carv_current(area, out),
+        23 => carv::carv_switches(area, out),
+        _ => carv::carv_exit_of(area, call.first, out),
     }
 }
 

@@ -7,7 +7,7 @@ use lib.Dec.{eqb, leb}
 use Rattle.carv_budget.specs.declared.Account.{Account}
 use Rattle.carv_objects.specs.declared.Answer.{Answer}
 use Rattle.carv_objects.specs.declared.Answer.the-variants.{Done, Id, Renewed, NotDue, Pays, PaysNothing, Figures, Charge, Refused}
-use Rattle.carv_objects.specs.Registry.{create, insert, create-budget, charge-more, uncharge, remove, refill, charge-cpu, pays-for-anything, read-account, charge-of}
+use Rattle.carv_registry.specs.Registry.{create, insert, create-budget, charge-more, uncharge, remove, refill, charge-cpu, pays-for-anything, read-account, charge-of}
 use Rattle.carv_objects.specs.Area.{Answered, Opened}
 use Rattle.replay_objects.specs.declared.record.Call.{Call}
 use Rattle.replay_objects.specs.declared.record.Reply.{Reply}

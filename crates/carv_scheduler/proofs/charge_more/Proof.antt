@@ -2,7 +2,7 @@
 use borrow.Author.Needs.{needs}
 use Rattle.carv_scheduler.specs.Entry.{entry-refused, entry-sound, entry-served}
 use Rattle.carv_scheduler.specs.OnRegistry.{registry-serves}
-use Rattle.carv_objects.specs.Registry.{charge-more}
+use Rattle.carv_registry.specs.Registry.{charge-more}
 use Rattle.carv_scheduler.proofs.charge_more.Statement.{statement}
 use Rattle.carv_scheduler.proofs.charge_more.Tie as tie
 

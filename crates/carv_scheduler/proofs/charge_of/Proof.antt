@@ -2,7 +2,7 @@
 use borrow.Author.Needs.{needs}
 use Rattle.carv_scheduler.specs.Entry.{entry-refused, entry-sound, entry-served}
 use Rattle.carv_scheduler.specs.OnRegistry.{registry-serves}
-use Rattle.carv_objects.specs.Registry.{charge-of}
+use Rattle.carv_registry.specs.Registry.{charge-of}
 use Rattle.carv_scheduler.proofs.charge_of.Statement.{statement}
 use Rattle.carv_scheduler.proofs.charge_of.Tie as tie
 

@@ -3,11 +3,11 @@ use borrow.Author.Needs.{needs}
 use mathlib.Core.Path.{refl, sym, ap, _∙_}
 use mathlib.Core.Option.{some}
 use Rattle.carv_budget.specs.declared.Account.{Account}
-use Rattle.carv_objects.specs.Answer.{figures}
+use Rattle.carv_registry.specs.Reply.{figures}
 use Rattle.carv_objects.specs.Formed.{unchanged}
 use Rattle.carv_objects.specs.AreaSteps.{budget-here, budget-gone}
 use Rattle.carv_objects.specs.Calls.{area-sound, area-formed, refused, answered, account-here}
-use Rattle.carv_objects.specs.Questions.{read-account-missing, read-account-done}
+use Rattle.carv_registry.specs.Questions.{read-account-missing, read-account-done}
 use Rattle.carv_objects.specs.Area.{decode}
 use Rattle.carv_objects.proofs.calls.account.Statement.{statement}
 use Rattle.carv_objects.proofs.calls.account.Tie as tie

@@ -2,7 +2,7 @@
 use borrow.Author.Needs.{needs}
 use Rattle.carv_objects.specs.AreaSteps.{located-here, located-gone, gone-has}
 use Rattle.carv_objects.specs.Calls.{area-sound, area-formed, refused, booked-yes, booked-no}
-use Rattle.carv_objects.specs.Questions.{charge-more-missing}
+use Rattle.carv_registry.specs.Questions.{charge-more-missing}
 use native.Mathlib.Omega.{arith}
 use Rattle.carv_objects.specs.CallSteps.{payer-has, payer-sound, charge-fits, charge-more-refused, charge-more-served}
 use Rattle.carv_objects.specs.Area.{decode}

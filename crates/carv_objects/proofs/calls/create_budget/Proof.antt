@@ -9,8 +9,8 @@ use Rattle.carv_objects.specs.declared.Answer.{Answer}
 use Rattle.carv_objects.specs.Answer.{number, value}
 use Rattle.carv_objects.specs.AreaSteps.{budget-here, budget-gone}
 use Rattle.carv_objects.specs.Calls.{area-sound, area-formed, account-at-sound, refused, refused-after, answered, booked-yes, booked-no, carved-yes, carved-no, free-here, charged-sound, carve-refused, carve-left, carve-memory, stored-budget, kept-at}
-use Rattle.carv_objects.specs.Questions.{create-budget-full, create-budget-payer, create-budget-cover, create-budget-carve, create-budget-done}
-use Rattle.carv_objects.specs.Kept.{create-budget-kept}
+use Rattle.carv_registry.specs.Questions.{create-budget-full, create-budget-payer, create-budget-cover, create-budget-carve, create-budget-done}
+use Rattle.carv_registry.specs.Kept.{create-budget-kept}
 use Rattle.carv_objects.specs.Area.{decode}
 use Rattle.carv_objects.proofs.calls.create_budget.Statement.{statement}
 use Rattle.carv_objects.proofs.calls.create_budget.Tie as tie

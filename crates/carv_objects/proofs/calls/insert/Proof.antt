@@ -5,8 +5,8 @@ use mathlib.Core.Path.{refl, ap}
 use Rattle.carv_objects.specs.Formed.{leaves-as}
 use Rattle.carv_objects.specs.AreaSteps.{budget-here, budget-gone}
 use Rattle.carv_objects.specs.Calls.{area-sound, area-formed, account-at-sound, refused, answered, booked-yes, booked-no, free-here, stored-plain, kept-at}
-use Rattle.carv_objects.specs.Questions.{insert-unlisted, insert-kind, insert-full, insert-payer, insert-cover, insert-done}
-use Rattle.carv_objects.specs.Kept.{insert-kept}
+use Rattle.carv_registry.specs.Questions.{insert-unlisted, insert-kind, insert-full, insert-payer, insert-cover, insert-done}
+use Rattle.carv_registry.specs.Kept.{insert-kept}
 use Rattle.carv_objects.specs.declared.Answer.{Answer}
 use Rattle.carv_objects.specs.Answer.{number, value}
 use Rattle.carv_objects.specs.Area.{decode}

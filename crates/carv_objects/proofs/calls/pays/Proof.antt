@@ -5,7 +5,7 @@ use native.Mathlib.Omega.{arith}
 use mathlib.Core.Path.{_≡_, refl}
 use lib.ListN.{length, drop}
 use borrow.Author.Needs.{needs}
-use Rattle.carv_objects.specs.Registry.{pays-in, pays-for}
+use Rattle.carv_registry.specs.Registry.{pays-in, pays-for}
 use Rattle.carv_objects.specs.Area.{decode}
 use Rattle.carv_objects.specs.CallSteps.{pays-ends, pays-found, pays-on}
 use Rattle.carv_objects.proofs.calls.pays.Statement.{statement}

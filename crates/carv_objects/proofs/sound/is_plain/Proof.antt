@@ -11,32 +11,30 @@ pub is-plain-spec : {M : Type 1} → statement M
 is-plain-spec =
     tie.close
     (tie.spec
-    (λ c. record { so = λ e. absurd (false≢true e); not = λ e p. omega (arith, p .low) })  -- returns
-    (λ c. record { so = λ e. absurd (false≢true e); not = λ e p. omega (arith, p .high) })  -- returns-2
+    (λ c κs. search needs)  -- is-listed-requires
+    (λ c. record { so = λ e. absurd (false≢true e); not = λ e p. false≢true (sym (not-true _ (c .if1 .taken)) ∙ c .before .is-listed .ensures ∙ p .code) })  -- returns
     (λ c κs. search needs)  -- is-sound-requires
-    (λ c. record { so = λ e. absurd (false≢true e); not = λ e p. false≢true (sym (not-true _ (c .if3 .taken)) ∙ c .before .is-sound .ensures ∙ p .sound) })  -- returns-3
-    (λ c. record { so = λ e. absurd (false≢true e); not = λ e p. omega (arith, p .no-cpu (λ q. omega arith)) })  -- returns-4
-    (λ c. record { so = λ e. absurd (false≢true e); not = λ e p. omega (arith, p .no-memory (λ q. omega arith)) })  -- returns-5
-    (λ c. record { so = λ e. absurd (false≢true e); not = λ e p. omega (arith, p .no-start (λ q. omega arith)) })  -- returns-6
+    (λ c. record { so = λ e. absurd (false≢true e); not = λ e p. false≢true (sym (not-true _ (c .if2 .taken)) ∙ c .before .is-sound .ensures ∙ p .sound) })  -- returns-2
+    (λ c. record { so = λ e. absurd (false≢true e); not = λ e p. omega (arith, p .no-cpu (λ q. omega arith)) })  -- returns-3
+    (λ c. record { so = λ e. absurd (false≢true e); not = λ e p. omega (arith, p .no-memory (λ q. omega arith)) })  -- returns-4
+    (λ c. record { so = λ e. absurd (false≢true e); not = λ e p. omega (arith, p .no-start (λ q. omega arith)) })  -- returns-5
     (λ c. record {
       so = λ e. record {
-        low = omega arith;
-        high = omega arith;
-        sound = sym (c .before .before .before .before .before .before .before .before .before .is-sound .ensures) ∙ not-false _ (c .before .before .before .before .before .before .before .before .if3 .left);
+        code = sym (c .before .before .before .before .before .before .before .before .before .before .before .before .is-listed .ensures) ∙ not-false _ (c .before .before .before .before .before .before .before .before .before .before .before .if1 .left);
+        sound = sym (c .before .before .before .before .before .before .before .before .before .is-sound .ensures) ∙ not-false _ (c .before .before .before .before .before .before .before .before .if2 .left);
         no-cpu = λ q. omega arith;
         no-memory = λ q. omega arith;
         no-start = λ q. omega arith;
       };
       not = λ e. absurd (true≢false e);
-    })  -- returns-7
+    })  -- returns-6
     (λ c. record {
       so = λ e. record {
-        low = omega arith;
-        high = omega arith;
-        sound = sym (c .before .before .before .is-sound .ensures) ∙ not-false _ (c .before .before .if3 .left);
+        code = sym (c .before .before .before .before .before .before .is-listed .ensures) ∙ not-false _ (c .before .before .before .before .before .if1 .left);
+        sound = sym (c .before .before .before .is-sound .ensures) ∙ not-false _ (c .before .before .if2 .left);
         no-cpu = λ q. absurd (q (omega arith));
         no-memory = λ q. absurd (q (omega arith));
         no-start = λ q. absurd (q (omega arith));
       };
       not = λ e. absurd (true≢false e);
-    }))  -- returns-8
+    }))  -- returns-7
