@@ -1,11 +1,11 @@
-//! The build script of the packages that link the port's library, `libcarv_scheduler.a`: from the
+//! The build script of the package that links the port's library, `libcarv.a`: from the
 //! folder that `CARV_LIB_DIR` names, by default `target/staticlib` of the repository. With the
 //! feature `mock` nothing is linked.
 
 use std::env;
 use std::path::PathBuf;
 
-const LIBRARY: &str = "libcarv_scheduler.a";
+const LIBRARY: &str = "libcarv.a";
 
 fn main() {
     println!("cargo::rerun-if-env-changed=CARV_LIB_DIR");
@@ -23,7 +23,8 @@ fn main() {
         return;
     }
     println!("cargo::rustc-link-search=native={}", folder.display());
-    println!("cargo::rustc-link-lib=static=carv_scheduler");
+    println!("cargo::rustc-link-lib=static=carv");
+    println!("cargo::metadata=library={}", library.display());
 }
 
 /// `CARV_LIB_DIR`, or the folder `target/staticlib` of the repository.

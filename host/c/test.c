@@ -2,7 +2,7 @@
  * Calls every function of include/carv.h, accepted and refused, and checks the number, the answer
  * words, the image and the area against document 01's edges and docs/LAYOUT.md. Needs no Rust.
  *
- *     gcc -std=c99 host/c/test.c -Ltarget/staticlib -lcarv_scheduler -o target/c_test
+ *     gcc -std=c99 host/c/test.c -Ltarget/staticlib -lcarv -o target/c_test
  *     target/c_test
  *
  * Exit status: 0 if every check holds, else 1; the checks that fail are printed.

@@ -7,7 +7,6 @@ use crate::damage::{self, Damage, Victim};
 use crate::pair::Pair;
 use crate::port::IMAGE_BYTES;
 use crate::runs::RandomBoards;
-use crate::shorten::shorten;
 use crate::sound::broken_rule;
 use carv_compare::board::call::{Call, Op};
 use carv_compare::board::reference::{ANSWER_WORDS, UNSOUND};
@@ -27,7 +26,7 @@ const WRONG_ANSWERS: [usize; 7] = [0, 1, 2, 7, ANSWER_WORDS - 1, ANSWER_WORDS + 
 const WRONG_IMAGES: [usize; 6] = [0, 1, 64, IMAGE_BYTES - 1, IMAGE_BYTES + 1, 1_024];
 
 /// How many areas each damage left unsound and sound, and which rule was broken first.
-#[derive(Clone, Debug, Default)]
+#[derive(Clone, Debug, Default, PartialEq, Eq)]
 pub struct Report {
     damages: BTreeMap<&'static str, [u64; 2]>,
     rules: BTreeMap<&'static str, u64>,
@@ -38,6 +37,16 @@ impl Report {
     /// Areas that were damaged.
     pub fn areas(&self) -> u64 {
         self.damages.values().flatten().sum()
+    }
+
+    /// Of these, areas that were no longer sound.
+    pub fn unsound(&self) -> u64 {
+        self.rules.values().sum()
+    }
+
+    /// Calls on them.
+    pub fn calls(&self) -> u64 {
+        self.calls
     }
 
     /// Areas whose first broken rule is this one.
@@ -78,20 +87,23 @@ pub fn damaged(count: u64, seed: u64) -> Result<Report, String> {
     let mut report = Report::default();
     let mut progress = Progress::new(count);
     for place in 0..count {
-        let steps = boards.walk.draw().random.below(16) + 1;
-        for _ in 0..steps {
+        for _ in 0..boards.few() {
             let done = boards.step();
-            done.map_err(|found| shorten(&found.steps).unwrap_or(found).to_string())?;
+            done.map_err(|found| found.shortened().to_string())?;
         }
-        let RandomBoards { walk, pair, .. } = &mut boards;
-        one_area(walk, pair, &mut report).map_err(|why| format!("area {place}, {why}"))?;
+        one_area(&mut boards, &mut report).map_err(|why| format!("area {place}, {why}"))?;
         progress.tell(place);
     }
     progress.end();
     Ok(report)
 }
 
-fn one_area(walk: &mut Walk, pair: &Pair, report: &mut Report) -> Result<(), String> {
+/// Damages an area of the current board and makes every kind of call on it.
+///
+/// # Errors
+/// What differs, in a few lines.
+pub fn one_area(boards: &mut RandomBoards, report: &mut Report) -> Result<(), String> {
+    let RandomBoards { walk, pair, .. } = boards;
     let ways = damage::ALL.len() as u64;
     let way = &damage::ALL[walk.draw().random.below(ways) as usize];
     let mut victim = Victim::new(pair.area().to_vec());

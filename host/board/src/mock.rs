@@ -1,125 +1,19 @@
-//! A small model behind the C functions, in place of the port's library, to test the comparison:
-//! mistakes can be planted in it.
+//! A small model in place of the port's library, to test the comparison: mistakes can be planted
+//! in it.
 
+mod mistake;
 mod registry;
 mod sound;
 mod threads;
 
 use crate::area::{self, BYTES, OBJECTS, THREADS, Table};
-use crate::port::IMAGE_BYTES;
+use crate::port::{IMAGE_BYTES, Port};
+use carv_compare::board::call::{Call, Op};
 use carv_compare::board::reference::ANSWER_WORDS;
 use carv_oracle::account::PERIOD;
-use std::cell::Cell;
+use mistake::planted;
 
-/// Mistakes that can be planted.
-#[derive(Clone, Copy, Debug, PartialEq, Eq)]
-#[expect(missing_docs, reason = "the names say what is wrong")]
-pub enum Mistake {
-    // Of the registry.
-    EveryChargeRefused,
-    RemovalGivesCpuBack,
-    StartSetToTime,
-    RenewalForgetsReservations,
-    KindBeforeCharge,
-    BackingBeforeKind,
-    RefusedCarveForgetsRenewal,
-    RefusedCarveKeepsCharge,
-    RefusedCpuChargeForgetsRenewal,
-    ChildStartsAtTime,
-    TableFullTooEarly,
-    LastIdTooEarly,
-    IdsGivenAgain,
-    UnchargeAboveCharge,
-    RootPaysForItself,
-    // Of the threads.
-    PlanningRenewsEveryBudget,
-    PlanningRenewsNoBudget,
-    TickRefusedWhereLessIsLeft,
-    OnlyFirstTickBooked,
-    RunTicksMadeUp,
-    RunTicksStopAtTheLast,
-    SwitchesMadeUp,
-    SwitchesStopAtTheLast,
-    LastTickTooEarly,
-    AlwaysNoSwitch,
-    AlwaysIdle,
-    IdleInQueue,
-    IdleReadyWhenLeft,
-    PutBackInFront,
-    PutBackAlsoBlocked,
-    DeadThreadKept,
-    KilledCurrentGoesAtOnce,
-    KilledStaysInQueue,
-    SecondKillNotLogged,
-    NewestExitForgotten,
-    ExitLogTooShort,
-    ExitOfGivesNewest,
-    MissingBudgetHasTime,
-    SleepersByFallingId,
-    SleepersWakeLate,
-    EveryWaitIsASleep,
-    SleepersKeepResults,
-    WakeKeepsResults,
-    WakeKeepsWait,
-    StartKeepsContext,
-    StackBeforePlace,
-    BudgetLookedUp,
-    DeadThreadBlocks,
-    MissingThreadBeforeWait,
-    KillForgetsWait,
-    ThreadsFullTooEarly,
-    // Of what is lent.
-    StateHandedBack,
-    RowNotCleared,
-    ThreadRowNotCleared,
-    AnswerOnRefusal,
-    AnswerPastItsWords,
-    RootWrittenForTheKernel,
-    NoSwitchWritesIds,
-    OpeningKeepsOldRows,
-    ImageNotFilled,
-    ImageOnRefusal,
-    ImageOfOtherBytes,
-    AnswerLengthNotAsked,
-    ImageLengthNotAsked,
-    // Of question 1.
-    SumsWrap,
-    RestNotAsked,
-    AccountsOfOthersNotAsked,
-    PayerKindNotAsked,
-    ThreadIdsNotAsked,
-    StatesNotAsked,
-    WaitsNotAsked,
-    WaitsOfOthersNotAsked,
-    BudgetFlagNotAsked,
-    SpaceFlagNotAsked,
-    QueueTwiceNotAsked,
-    QueueStatesNotAsked,
-    ReadyOutsideQueueNotAsked,
-    IdleInQueueNotAsked,
-    SecondDeadNotAsked,
-    SecondRunningNotAsked,
-    CurrentNotAsked,
-    InactiveCurrentNotAsked,
-    IdleNotAsked,
-    IdleStateNotAsked,
-    IdleCurrentNotAsked,
-    BudgetsOfThreadsNotAsked,
-    CausesNotAsked,
-}
-
-thread_local! {
-    static PLANTED: Cell<Option<Mistake>> = const { Cell::new(None) };
-}
-
-/// Plants a mistake for this thread, or none.
-pub fn plant(mistake: Option<Mistake>) {
-    PLANTED.set(mistake);
-}
-
-fn planted(mistake: Mistake) -> bool {
-    PLANTED.get() == Some(mistake)
-}
+pub use mistake::{Mistake, plant};
 
 /// The values of an accepted call, or the number of its refusal.
 type Done = Result<Vec<u64>, u64>;
@@ -131,7 +25,7 @@ fn ask(number: u64, yes: bool) -> Result<(), u64> {
 /// A board in memory.
 struct Model(Table);
 
-/// What the C functions are lent.
+/// What a call is lent.
 struct Lent<'a> {
     area: &'a mut [u8],
     out: &'a mut [u64],
@@ -176,7 +70,7 @@ impl Lent<'_> {
             return 2;
         }
         let rest = area[OBJECTS.row(1) * 8..].to_vec();
-        area::write(&Table::opening(cpu, memory), area);
+        area::write(&threads::opening(cpu, memory), area);
         if planted(Mistake::OpeningKeepsOldRows) {
             area[OBJECTS.row(1) * 8..].copy_from_slice(&rest);
         }
@@ -207,8 +101,8 @@ fn answer_fits(out: &[u64]) -> bool {
     out.len() == ANSWER_WORDS || planted(Mistake::AnswerLengthNotAsked)
 }
 
-/// Fills an image if it has its length.
-fn fill(image: &mut [u8]) -> u64 {
+/// See [`Port::fill_image`].
+pub(crate) fn fill_image(image: &mut [u8]) -> u64 {
     if image.len() != IMAGE_BYTES {
         return 1;
     }
@@ -229,6 +123,23 @@ fn fill(image: &mut [u8]) -> u64 {
     0
 }
 
+/// See [`Port::is_sound`].
+pub(crate) fn is_sound(area: &[u8]) -> bool {
+    sound::is_sound(area)
+}
+
+/// See [`Port::make`].
+pub(crate) fn make(call: Call, Port { area, out, image }: &mut Port) -> u64 {
+    let lent = Lent { area, out };
+    match call {
+        Call::Open { cpu, memory } => lent.open(cpu, memory),
+        Call::CreateUserThread { id, budget, stack } => {
+            create_user_thread(lent, id, budget, stack, image)
+        }
+        _ => lent.serve(|model| model.make(call)),
+    }
+}
+
 fn create_user_thread(lent: Lent, id: u64, budget: u64, stack: bool, image: &mut [u8]) -> u64 {
     if image.len() != IMAGE_BYTES && !planted(Mistake::ImageLengthNotAsked) {
         return 1;
@@ -236,127 +147,43 @@ fn create_user_thread(lent: Lent, id: u64, budget: u64, stack: bool, image: &mut
     let number = lent.serve(|model| model.create_user_thread(id, budget, stack));
     let accepted = number == 0 && !planted(Mistake::ImageNotFilled);
     if accepted || planted(Mistake::ImageOnRefusal) {
-        fill(image);
+        fill_image(image);
     }
     number
 }
 
-/// Defines C functions that lend area and answer words to the model.
-macro_rules! exported {
-    ($($name:ident($($argument:ident: $type:ty),*) => $body:expr;)*) => {$(
-        /// See [`crate::port`].
-        ///
-        /// # Safety
-        /// The pointers belong to that many bytes and words, lent for the call alone.
-        #[unsafe(no_mangle)]
-        #[allow(clippy::too_many_arguments)]
-        pub unsafe extern "C" fn $name(
-            area: *mut u8,
-            bytes: usize,
-            $($argument: $type,)*
-            out: *mut u64,
-            words: usize,
-        ) -> u64 {
-            // SAFETY: as the caller promises.
-            let lent = unsafe {
-                Lent {
-                    area: std::slice::from_raw_parts_mut(area, bytes),
-                    out: std::slice::from_raw_parts_mut(out, words),
-                }
-            };
-            let serve: fn(Lent, $($type),*) -> u64 = $body;
-            serve(lent, $($argument),*)
+impl Model {
+    /// Makes a call that is lent area and answer words alone.
+    fn make(&mut self, call: Call) -> Done {
+        match (call.op(), &call.arguments()[..]) {
+            (Op::Create, &[kind, payer, backing]) => self.create(kind, payer, backing == 1),
+            (Op::Insert, &[kind, payer, bytes]) => self.insert(kind, payer, bytes),
+            (Op::CreateBudget, &[parent, cpu, memory, time]) => {
+                self.create_budget(parent, cpu, memory, time)
+            }
+            (Op::ChargeMore, &[id, bytes]) => self.charge_more(id, bytes),
+            (Op::Uncharge, &[id, bytes]) => self.uncharge(id, bytes),
+            (Op::Remove, &[id]) => self.remove(id),
+            (Op::Refill, &[id, time]) => self.refill(id, time),
+            (Op::ChargeCpu, &[id, ns, time]) => self.charge_cpu(id, ns, time),
+            (Op::PaysForAnything, &[id]) => Ok(vec![self.pays(id).into()]),
+            (Op::Account, &[id]) => self.budget(id).map(|account| account.words().to_vec()),
+            (Op::ChargeOf, &[id]) => self.object(id).map(|row| vec![row.payer, row.charge]),
+            (Op::Start, &[id, space, cspace, root, rip, rsp, rflags, rdi, rsi, cs, ss]) => {
+                let context = [rip, rsp, rflags, rdi, rsi, cs, ss];
+                self.start(id, [1, space, cspace, root], context)
+            }
+            (Op::BlockCurrent, &[kind, number]) => self.block_current([kind, number]),
+            (Op::Wake, &[id, first, second, third]) => self.wake(id, [first, second, third]),
+            (Op::IsBlockedOn, &[id, kind, number]) => self.is_blocked_on(id, [kind, number]),
+            (Op::Kill, &[id, cause]) => self.kill(id, cause),
+            (Op::Tick, &[tick]) => self.tick(tick),
+            (Op::Plan, &[tick]) => self.plan(tick),
+            (Op::Thread, &[id]) => self.read_thread(id),
+            (Op::Current, []) => Ok(vec![self.0.current]),
+            (Op::Switches, []) => Ok(vec![self.0.switches]),
+            (Op::ExitOf, &[id]) => Ok(vec![self.exit_of(id)]),
+            _ => unreachable!("{call} is lent more"),
         }
-    )*};
-}
-
-exported! {
-    carv_open(cpu: u64, memory: u64) => |lent, cpu, memory| lent.open(cpu, memory);
-    carv_create(kind: u64, payer: u64, backing: bool) =>
-        |lent, kind, payer, backing| lent.serve(|m| m.create(kind, payer, backing));
-    carv_insert(kind: u64, payer: u64, charge: u64) =>
-        |lent, kind, payer, charge| lent.serve(|m| m.insert(kind, payer, charge));
-    carv_create_budget(parent: u64, cpu: u64, memory: u64, time: u64) =>
-        |lent, parent, cpu, memory, time| lent.serve(|m| m.create_budget(parent, cpu, memory, time));
-    carv_charge_more(id: u64, charge: u64) =>
-        |lent, id, charge| lent.serve(|m| m.charge_more(id, charge));
-    carv_uncharge(id: u64, charge: u64) =>
-        |lent, id, charge| lent.serve(|m| m.uncharge(id, charge));
-    carv_remove(id: u64) => |lent, id| lent.serve(|m| m.remove(id));
-    carv_refill(id: u64, time: u64) => |lent, id, time| lent.serve(|m| m.refill(id, time));
-    carv_charge_cpu(id: u64, ns: u64, time: u64) =>
-        |lent, id, ns, time| lent.serve(|m| m.charge_cpu(id, ns, time));
-    carv_pays_for_anything(id: u64) => |lent, id| lent.serve(|m| Ok(vec![m.pays(id).into()]));
-    carv_account(id: u64) =>
-        |lent, id| lent.serve(|m| m.budget(id).map(|account| account.words().to_vec()));
-    carv_charge_of(id: u64) =>
-        |lent, id| lent.serve(|m| m.object(id).map(|row| vec![row.payer, row.charge]));
-    carv_start(
-        id: u64, space: u64, cspace: u64, root: u64,
-        rip: u64, rsp: u64, rflags: u64, rdi: u64, rsi: u64, cs: u64, ss: u64
-    ) => |lent, id, space, cspace, root, rip, rsp, rflags, rdi, rsi, cs, ss| {
-        let context = [rip, rsp, rflags, rdi, rsi, cs, ss];
-        lent.serve(|m| m.start(id, [1, space, cspace, root], context))
-    };
-    carv_block_current(kind: u64, number: u64) =>
-        |lent, kind, number| lent.serve(|m| m.block_current([kind, number]));
-    carv_wake(id: u64, first: u64, second: u64, third: u64) =>
-        |lent, id, first, second, third| lent.serve(|m| m.wake(id, [first, second, third]));
-    carv_is_blocked_on(id: u64, kind: u64, number: u64) =>
-        |lent, id, kind, number| lent.serve(|m| m.is_blocked_on(id, [kind, number]));
-    carv_kill(id: u64, cause: u64) => |lent, id, cause| lent.serve(|m| m.kill(id, cause));
-    carv_tick(tick: u64) => |lent, tick| lent.serve(|m| m.tick(tick));
-    carv_plan(tick: u64) => |lent, tick| lent.serve(|m| m.plan(tick));
-    carv_read_thread(id: u64) => |lent, id| lent.serve(|m| m.read_thread(id));
-    carv_current() => |lent| lent.serve(|m| Ok(vec![m.0.current]));
-    carv_switches() => |lent| lent.serve(|m| Ok(vec![m.0.switches]));
-    carv_exit_of(id: u64) => |lent, id| lent.serve(|m| Ok(vec![m.exit_of(id)]));
-}
-
-/// See [`crate::port`].
-///
-/// # Safety
-/// The pointers belong to that many bytes and words, lent for the call alone.
-#[unsafe(no_mangle)]
-#[allow(clippy::too_many_arguments)]
-pub unsafe extern "C" fn carv_create_user_thread(
-    area: *mut u8,
-    bytes: usize,
-    id: u64,
-    budget: u64,
-    stack: bool,
-    image: *mut u8,
-    image_bytes: usize,
-    out: *mut u64,
-    words: usize,
-) -> u64 {
-    // SAFETY: as the caller promises.
-    let (lent, image) = unsafe {
-        let lent = Lent {
-            area: std::slice::from_raw_parts_mut(area, bytes),
-            out: std::slice::from_raw_parts_mut(out, words),
-        };
-        (lent, std::slice::from_raw_parts_mut(image, image_bytes))
-    };
-    create_user_thread(lent, id, budget, stack, image)
-}
-
-/// See [`crate::port`].
-///
-/// # Safety
-/// The pointer belongs to that many bytes, lent for the call alone.
-#[unsafe(no_mangle)]
-pub unsafe extern "C" fn carv_image(image: *mut u8, bytes: usize) -> u64 {
-    // SAFETY: as the caller promises.
-    fill(unsafe { std::slice::from_raw_parts_mut(image, bytes) })
-}
-
-/// See [`crate::port`].
-///
-/// # Safety
-/// The pointer belongs to that many bytes, lent for the call alone.
-#[unsafe(no_mangle)]
-pub unsafe extern "C" fn carv_is_sound(area: *const u8, bytes: usize) -> bool {
-    // SAFETY: as the caller promises.
-    sound::is_sound(unsafe { std::slice::from_raw_parts(area, bytes) })
+    }
 }

@@ -1,8 +1,9 @@
 //! The port and the Rust side by side.
 
 use crate::area;
-use crate::calls::{self, on_port};
+use crate::edit;
 use crate::port::{IMAGE_BYTES, Port};
+use crate::snapshot;
 use carv_compare::board::IDLE;
 use carv_compare::board::call::{Call, Edit, Step};
 use carv_compare::board::reference::{ANSWER_WORDS, Answer, Reference};
@@ -73,11 +74,11 @@ impl Pair {
     pub fn call(&mut self, call: Call) -> Result<u64, Difference> {
         let answer = self.reference.call(call);
         if self.reference.is_open() && !call.op().is_reading() {
-            area::write_snapshot(self.reference.state(), &mut self.expected);
+            snapshot::write(self.reference.state(), &mut self.expected);
         }
         self.port.out.copy_from_slice(&UNTOUCHED);
         self.port.image.copy_from_slice(&UNTOUCHED_IMAGE);
-        let found = on_port(call, &mut self.port);
+        let found = self.port.make(call);
         self.compare(found, &answer)?;
         self.compare_image(call, answer.number)?;
         Ok(answer.number)
@@ -85,8 +86,8 @@ impl Pair {
 
     fn edit(&mut self, edit: Edit) {
         self.reference.edit(edit);
-        area::write_snapshot(self.reference.state(), &mut self.expected);
-        calls::edit(edit, &mut self.port.area);
+        snapshot::write(self.reference.state(), &mut self.expected);
+        edit::apply(edit, &mut self.port.area);
     }
 
     fn compare(&self, found: u64, answer: &Answer) -> Result<(), Difference> {

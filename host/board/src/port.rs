@@ -1,9 +1,13 @@
-//! The port's C functions, behind plain numbers. The only unsafe code of this package.
+//! A board of the port: the memory that is lent, and the calls on it.
 
+#[cfg(not(feature = "mock"))]
+use crate::library as behind;
+#[cfg(feature = "mock")]
+use crate::mock as behind;
+use carv_compare::board::call::Call;
 use carv_compare::board::reference::ANSWER_WORDS;
 
-/// Bytes in a register image.
-pub const IMAGE_BYTES: usize = 512;
+pub use carv::IMAGE_BYTES;
 
 /// A board of the port: the area that it lives in, and what is lent beside it.
 ///
@@ -27,144 +31,62 @@ impl Port {
             image: vec![0; IMAGE_BYTES],
         }
     }
-}
 
-/// Declares C functions that are lent the area first and the answer words last, and for each a
-/// method that lends them and answers the number.
-macro_rules! functions {
-    ($($(#[$doc:meta])* $function:ident, $method:ident($($argument:ident: $type:ty),*);)*) => {
-        unsafe extern "C" {
-            $(fn $function(
-                area: *mut u8,
-                bytes: usize,
-                $($argument: $type,)*
-                out: *mut u64,
-                words: usize,
-            ) -> u64;)*
-        }
-
-        impl Port {
-            $(
-                $(#[$doc])*
-                #[allow(clippy::too_many_arguments)]
-                pub fn $method(&mut self, $($argument: $type),*) -> u64 {
-                    let Self { area, out, .. } = self;
-                    // SAFETY: both pointers come with the lengths of the vectors that they belong
-                    // to, no other reference to these exists during the call, and the function
-                    // keeps none of them.
-                    unsafe {
-                        $function(
-                            area.as_mut_ptr(),
-                            area.len(),
-                            $($argument,)*
-                            out.as_mut_ptr(),
-                            out.len(),
-                        )
-                    }
-                }
-            )*
-        }
-    };
-}
-
-functions! {
-    /// Opens the board, whatever the area held, with a root budget of this share.
-    carv_open, open(cpu: u64, memory: u64);
-    /// Creates an object, its backing there or not; word 0 is its id.
-    carv_create, create(kind: u64, payer: u64, backing: bool);
-    /// Inserts an object at a charge of `charge`; word 0 is its id.
-    carv_insert, insert(kind: u64, payer: u64, charge: u64);
-    /// Carves a budget out of `parent`; word 0 is its id.
-    carv_create_budget, create_budget(parent: u64, cpu: u64, memory: u64, time: u64);
-    /// Raises an object's charge.
-    carv_charge_more, charge_more(id: u64, charge: u64);
-    /// Lowers an object's charge.
-    carv_uncharge, uncharge(id: u64, charge: u64);
-    /// Removes an object.
-    carv_remove, remove(id: u64);
-    /// Renews a budget if that is due; word 0 says whether it was.
-    carv_refill, refill(id: u64, time: u64);
-    /// Charges a budget CPU time.
-    carv_charge_cpu, charge_cpu(id: u64, ns: u64, time: u64);
-    /// Reads into word 0 whether a budget pays for anything but itself.
-    carv_pays_for_anything, pays_for_anything(id: u64);
-    /// Reads a budget's figures into seven words.
-    carv_account, account(id: u64);
-    /// Reads an object's payer and charge.
-    carv_charge_of, charge_of(id: u64);
-    /// Makes an Inactive thread ready.
-    carv_start, start(
-        id: u64, space: u64, cspace: u64, root: u64,
-        rip: u64, rsp: u64, rflags: u64, rdi: u64, rsi: u64, cs: u64, ss: u64
-    );
-    /// Blocks the current thread.
-    carv_block_current, block_current(kind: u64, number: u64);
-    /// Wakes a Blocked thread with these results.
-    carv_wake, wake(id: u64, first: u64, second: u64, third: u64);
-    /// Reads into word 0 whether a thread is blocked on just this wait.
-    carv_is_blocked_on, is_blocked_on(id: u64, kind: u64, number: u64);
-    /// Ends a thread; words 0 and 1 are the wait that this ended.
-    carv_kill, kill(id: u64, cause: u64);
-    /// Books a tick to the current thread and wakes sleepers.
-    carv_tick, tick(tick: u64);
-    /// Picks the thread that runs; words 0 to 4 are the switch.
-    carv_plan, plan(tick: u64);
-    /// Reads a thread's record into all words.
-    carv_read_thread, thread(id: u64);
-    /// Reads the current thread's id.
-    carv_current, current();
-    /// Reads the switch count.
-    carv_switches, switches();
-    /// Reads why a thread ended.
-    carv_exit_of, exit_of(id: u64);
-}
-
-unsafe extern "C" {
-    fn carv_create_user_thread(
-        area: *mut u8,
-        bytes: usize,
-        id: u64,
-        budget: u64,
-        stack: bool,
-        image: *mut u8,
-        image_bytes: usize,
-        out: *mut u64,
-        words: usize,
-    ) -> u64;
-    fn carv_image(image: *mut u8, bytes: usize) -> u64;
-    fn carv_is_sound(area: *const u8, bytes: usize) -> bool;
-}
-
-impl Port {
-    /// Creates a thread that runs on `budget`, its kernel stack there or not, and fills the image.
-    pub fn create_user_thread(&mut self, id: u64, budget: u64, stack: bool) -> u64 {
-        let Self { area, out, image } = self;
-        // SAFETY: as for the other calls, and the image is lent in the same way.
-        unsafe {
-            carv_create_user_thread(
-                area.as_mut_ptr(),
-                area.len(),
-                id,
-                budget,
-                stack,
-                image.as_mut_ptr(),
-                image.len(),
-                out.as_mut_ptr(),
-                out.len(),
-            )
-        }
+    /// Makes the call: 0 if accepted, else the number of the refusal. What it answers beyond that
+    /// is in the answer words and the image.
+    // So that a call that is written out, as in the benchmark, costs no look at which it is.
+    #[inline(always)]
+    pub fn make(&mut self, call: Call) -> u64 {
+        behind::make(call, self)
     }
 
     /// Fills the image.
+    #[inline]
     pub fn fill_image(&mut self) -> u64 {
-        // SAFETY: the pointer comes with the length of the vector that it belongs to, and no other
-        // reference to it exists during the call.
-        unsafe { carv_image(self.image.as_mut_ptr(), self.image.len()) }
+        behind::fill_image(&mut self.image)
     }
 
     /// Whether the area is of its length and the board in it sound.
+    #[inline]
     pub fn is_sound(&self) -> bool {
-        // SAFETY: the pointer comes with the length of the vector that it belongs to.
-        unsafe { carv_is_sound(self.area.as_ptr(), self.area.len()) }
+        behind::is_sound(&self.area)
+    }
+}
+
+/// The comparison has its own figures, from document 01; the wrapper those of the header.
+#[cfg(test)]
+mod tests {
+    use super::*;
+    use crate::area;
+    use carv::{Kind, State, ThreadId, Wait};
+    use carv_compare::board::{
+        BUDGET, EXITS, IDLE, LAST_TICK, OBJECTS, SLEEP, THREADS, TICK, state,
+    };
+    use carv_oracle::account::PERIOD;
+
+    #[test]
+    fn lengths_are_the_wrappers() {
+        assert_eq!(area::BYTES, carv::AREA_BYTES);
+        assert_eq!(ANSWER_WORDS, carv::c::ANSWER_WORDS);
+        let most = (carv::MOST_OBJECTS, carv::MOST_THREADS, carv::MOST_EXITS);
+        assert_eq!((OBJECTS, THREADS, EXITS), most);
+    }
+
+    #[test]
+    fn times_and_codes_are_the_wrappers() {
+        let times = (carv::PERIOD_NS, carv::TICK_NS, carv::LAST_TICK);
+        assert_eq!((PERIOD, TICK, LAST_TICK), times);
+        assert_eq!((BUDGET, IDLE), (Kind::Budget.code(), ThreadId::IDLE.0));
+        let sleep = Wait::Sleep(7);
+        assert_eq!((SLEEP, 7), sleep.codes());
+        for (code, named) in [
+            (state::INACTIVE, State::Inactive),
+            (state::READY, State::Ready),
+            (state::RUNNING, State::Running),
+            (state::BLOCKED, State::Blocked(sleep)),
+            (state::DEAD, State::Dead),
+        ] {
+            assert_eq!(code, named.code(), "{named:?}");
+        }
     }
 }

@@ -1,7 +1,7 @@
 //! Random lists of calls, made on the port and on the Rust.
 
 use crate::pair::{Difference, Pair};
-use crate::shorten::{Finding, shorten};
+use crate::shorten::Finding;
 use crate::tally::Tally;
 use carv_compare::board::call::{Call, Step};
 use carv_compare::board::walk::Walk;
@@ -42,6 +42,11 @@ impl RandomBoards {
         Ok((step, number))
     }
 
+    /// A few steps to be made before the next area is damaged.
+    pub fn few(&mut self) -> u64 {
+        self.walk.draw().random.below(16) + 1
+    }
+
     fn finding(&self, difference: Difference) -> Finding {
         Finding {
             steps: self.since_opening.clone(),
@@ -74,5 +79,5 @@ pub fn first_difference(count: u64, seed: u64) -> Result<Tally, Finding> {
 /// # Errors
 /// The first difference, with the shortest list found.
 pub fn random(count: u64, seed: u64) -> Result<Tally, Finding> {
-    first_difference(count, seed).map_err(|finding| shorten(&finding.steps).unwrap_or(finding))
+    first_difference(count, seed).map_err(Finding::shortened)
 }

@@ -17,6 +17,13 @@ pub struct Finding {
     pub difference: Difference,
 }
 
+impl Finding {
+    /// The shortest list found.
+    pub fn shortened(self) -> Self {
+        shorten(&self.steps).unwrap_or(self)
+    }
+}
+
 /// Most steps of a list that are shown.
 const SHOWN: usize = 200;
 

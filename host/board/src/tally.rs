@@ -2,43 +2,55 @@
 
 use carv_compare::board::IDLE;
 use carv_compare::board::call::{Call, Op};
+use carv_compare::board::numbers::{self, NUMBERS};
 use carv_compare::state::entry;
 use carv_oracle::Snapshot;
 use std::fmt;
 
-/// Numbers that document 01 lists, 0 included.
-const NUMBERS: usize = 16;
-
 /// How often each call gave each number, and how far the boards went.
-#[derive(Clone, Debug, Default)]
+#[derive(Clone, Debug, Default, PartialEq, Eq)]
 pub struct Tally {
     calls: [[u64; NUMBERS]; Op::ALL.len()],
-    most_objects: usize,
-    deepest: usize,
-    most_threads: usize,
-    longest_queue: usize,
-    plans_to_idle: u64,
+    reached: Reached,
+    /// On the current board.
     kills: u64,
-    most_kills: u64,
+}
+
+/// How far boards went.
+#[derive(Clone, Copy, Debug, Default, PartialEq, Eq)]
+pub struct Reached {
+    /// Most objects at a time.
+    pub objects: usize,
+    /// Most levels of budgets below the root.
+    pub levels: usize,
+    /// Most threads at a time.
+    pub threads: usize,
+    /// Most threads in the ready queue.
+    pub queue: usize,
+    /// Plannings that ended with idle.
+    pub plans_to_idle: u64,
+    /// Most kills on a board.
+    pub kills: u64,
 }
 
 impl Tally {
     /// Counts a call that gave this number, which document 01 lists, and left this state.
     pub fn count(&mut self, call: Call, number: u64, after: &Snapshot) {
-        self.most_objects = self.most_objects.max(after.entries.len());
-        self.most_threads = self.most_threads.max(after.threads.len());
-        self.longest_queue = self.longest_queue.max(after.ready.len());
+        let reached = &mut self.reached;
+        reached.objects = reached.objects.max(after.entries.len());
+        reached.threads = reached.threads.max(after.threads.len());
+        reached.queue = reached.queue.max(after.ready.len());
         match call {
             _ if number > 0 => {}
             Call::Open { .. } => self.kills = 0,
             Call::Kill { .. } => self.kills += 1,
-            Call::Plan { .. } => self.plans_to_idle += u64::from(after.current == IDLE),
+            Call::Plan { .. } => reached.plans_to_idle += u64::from(after.current == IDLE),
             Call::CreateBudget { parent, .. } => {
-                self.deepest = self.deepest.max(level(after, parent) + 1);
+                reached.levels = reached.levels.max(level(after, parent) + 1);
             }
             _ => {}
         }
-        self.most_kills = self.most_kills.max(self.kills);
+        reached.kills = reached.kills.max(self.kills);
         self.calls[call.op() as usize - 1][number as usize] += 1;
     }
 
@@ -48,13 +60,35 @@ impl Tally {
     }
 
     /// The calls of this kind that gave this number.
-    pub fn of(&self, op: Op, number: usize) -> u64 {
-        self.calls[op as usize - 1][number]
+    pub fn of(&self, op: Op, number: u64) -> u64 {
+        self.calls[op as usize - 1][number as usize]
     }
 
-    /// Most objects and most threads at a time, and most kills on a board.
-    pub fn most(&self) -> (usize, usize, u64) {
-        (self.most_objects, self.most_threads, self.most_kills)
+    /// The calls of this kind that were refused.
+    pub fn refused(&self, op: Op) -> u64 {
+        self.calls[op as usize - 1][1..].iter().sum()
+    }
+
+    /// All calls that gave this number.
+    pub fn with(&self, number: u64) -> u64 {
+        self.calls.iter().map(|of| of[number as usize]).sum()
+    }
+
+    /// The numbers that came, with how often; of one call or of all.
+    pub fn numbers(&self, op: Option<Op>) -> impl Iterator<Item = (u64, u64)> {
+        let count = move |number| op.map_or_else(|| self.with(number), |op| self.of(op, number));
+        let all = (0..NUMBERS as u64).map(move |number| (number, count(number)));
+        all.filter(|(_, count)| *count > 0)
+    }
+
+    /// Calls with a number that they can answer and never did.
+    pub fn missing(&self) -> impl Iterator<Item = (Op, u64)> {
+        numbers::all().filter(|(op, number)| self.of(*op, *number) == 0)
+    }
+
+    /// How far the boards went.
+    pub fn reached(&self) -> Reached {
+        self.reached
     }
 }
 
@@ -68,28 +102,21 @@ fn level(state: &Snapshot, mut id: u64) -> usize {
     level
 }
 
-/// Calls by number: those that occur.
-fn numbers(counts: impl Fn(usize) -> u64) -> String {
-    let found = (0..NUMBERS).filter(|number| counts(*number) > 0);
-    let texts: Vec<String> = found
-        .map(|number| format!("{number}: {}", counts(number)))
-        .collect();
-    texts.join(", ")
-}
-
 impl fmt::Display for Tally {
     fn fmt(&self, f: &mut fmt::Formatter<'_>) -> fmt::Result {
-        for (op, counts) in Op::ALL.iter().zip(&self.calls) {
-            let all: u64 = counts.iter().sum();
-            writeln!(f, "{:18}{all:>12}  {}", op.name(), numbers(|n| counts[n]))?;
+        let ops = Op::ALL.iter().map(|op| (op.name(), Some(*op)));
+        for (name, op) in ops.chain([("all", None)]) {
+            let all: u64 = self.numbers(op).map(|(_, count)| count).sum();
+            let numbers = self.numbers(op).map(|(n, count)| format!("{n}: {count}"));
+            let numbers: Vec<String> = numbers.collect();
+            writeln!(f, "{name:18}{all:>12}  {}", numbers.join(", "))?;
         }
-        let by_number = numbers(|n| self.calls.iter().map(|counts| counts[n]).sum());
-        writeln!(f, "{:18}{:>12}  {by_number}", "all", self.total())?;
-        writeln!(f, "most objects at a time: {}", self.most_objects)?;
-        writeln!(f, "levels below the root: {}", self.deepest)?;
-        writeln!(f, "most threads at a time: {}", self.most_threads)?;
-        writeln!(f, "longest queue: {}", self.longest_queue)?;
-        writeln!(f, "plannings that end with idle: {}", self.plans_to_idle)?;
-        write!(f, "most kills on a board: {}", self.most_kills)
+        let reached = self.reached;
+        writeln!(f, "most objects at a time: {}", reached.objects)?;
+        writeln!(f, "levels below the root: {}", reached.levels)?;
+        writeln!(f, "most threads at a time: {}", reached.threads)?;
+        writeln!(f, "longest queue: {}", reached.queue)?;
+        writeln!(f, "plannings that end with idle: {}", reached.plans_to_idle)?;
+        write!(f, "most kills on a board: {}", reached.kills)
     }
 }

@@ -2,7 +2,7 @@
 
 use carv_board_host::mock::{Mistake, plant};
 use carv_board_host::{damaged, runs, short, sound};
-use carv_compare::board::call::Op;
+use carv_compare::board::numbers;
 
 const SEED: u64 = 1;
 
@@ -17,40 +17,13 @@ fn with<T>(mistake: Mistake, run: impl FnOnce() -> T) -> T {
 #[test]
 fn random_lists_reach_every_answer() {
     let tally = runs::random(100_000, SEED).expect("no difference");
-    for (op, numbers) in [
-        (Op::Open, &[0, 2][..]),
-        (Op::Create, &[0, 4, 6, 7, 12, 13, 14]),
-        (Op::Insert, &[0, 4, 6, 7, 12]),
-        (Op::CreateBudget, &[0, 6, 7, 12]),
-        (Op::ChargeMore, &[0, 7, 12]),
-        (Op::Uncharge, &[0, 7, 11]),
-        (Op::Remove, &[0, 7, 9, 10]),
-        (Op::Refill, &[0, 7]),
-        (Op::ChargeCpu, &[0, 7, 12]),
-        (Op::PaysForAnything, &[0]),
-        (Op::Account, &[0, 7]),
-        (Op::ChargeOf, &[0, 7]),
-        (Op::CreateUserThread, &[0, 5, 6, 14]),
-        (Op::Start, &[0, 7, 8]),
-        (Op::BlockCurrent, &[0, 4, 8]),
-        (Op::Wake, &[0, 7, 8]),
-        (Op::IsBlockedOn, &[0, 4]),
-        (Op::Kill, &[0, 4, 5, 7]),
-        (Op::Tick, &[0, 3]),
-        (Op::Plan, &[0, 3]),
-        (Op::Thread, &[0, 7]),
-        (Op::Current, &[0]),
-        (Op::Switches, &[0]),
-        (Op::ExitOf, &[0]),
-    ] {
-        for number in numbers {
-            let found = tally.of(op, *number);
-            assert!(found > 4, "{op:?} with {number}: {found}");
-        }
+    for (op, number) in numbers::all() {
+        let found = tally.of(op, number);
+        assert!(found > 4, "{op:?} with {number}: {found}");
     }
-    let (objects, threads, kills) = tally.most();
-    assert_eq!((objects, threads), (512, 128));
-    assert!(kills > 33);
+    let reached = tally.reached();
+    assert_eq!((reached.objects, reached.threads), (512, 128));
+    assert!(reached.kills > 33);
 }
 
 #[test]

@@ -36,7 +36,7 @@
 //! # Ok::<(), Refusal>(())
 //! ```
 //!
-//! The crate is `no_std` and allocates nothing. Its build script links `libcarv_scheduler.a` from
+//! The crate is `no_std` and allocates nothing. Its build script links `libcarv.a` from
 //! the folder that `CARV_LIB_DIR` names, by default `target/staticlib` of the repository.
 
 #![no_std]
@@ -44,6 +44,7 @@
 
 mod answers;
 mod board;
+mod by_code;
 mod codes;
 #[allow(unsafe_code)]
 mod ffi;
@@ -56,6 +57,7 @@ mod threads;
 pub use answers::{Account, Charge, Context, Limits, Space, Switch, ThreadRecord};
 pub use board::Board;
 pub use codes::{Backing, Cause, Kind, State, Wait};
+pub use ffi::c;
 pub use ids::{ObjectId, ThreadId};
 pub use image::Image;
 pub use refusal::Refusal;

@@ -29,8 +29,7 @@ impl Board {
         payer: ObjectId,
         backing: Backing,
     ) -> Result<ObjectId, Refusal> {
-        let words = ffi::carv_create(&mut self.area, kind.code(), payer.0, backing.is_there())?;
-        Ok(ObjectId(words[0]))
+        self.create_by_code(kind.code(), payer, backing)
     }
 
     /// Inserts an object of any kind but [`Kind::Budget`]; the payer is charged so many bytes.
@@ -48,8 +47,7 @@ impl Board {
     /// # Ok::<(), carv::Refusal>(())
     /// ```
     pub fn insert(&mut self, kind: Kind, payer: ObjectId, bytes: u64) -> Result<ObjectId, Refusal> {
-        let words = ffi::carv_insert(&mut self.area, kind.code(), payer.0, bytes)?;
-        Ok(ObjectId(words[0]))
+        self.insert_by_code(kind.code(), payer, bytes)
     }
 
     /// Carves a budget out of its parent, which pays 128 bytes for it, is renewed if that is due

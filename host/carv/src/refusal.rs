@@ -152,7 +152,9 @@ impl Refusal {
             Self::Tick => {
                 "Pass the number of the tick, not a time in ns: ticks of 1 ms get there after 584 years."
             }
-            Self::Code => "Carve a budget out with `create_budget` instead of inserting it.",
+            Self::Code => {
+                "Take a kind, wait or cause that is listed; carve a budget out with `create_budget` instead of inserting it."
+            }
             Self::Id => {
                 "Choose an id that has no record, best with `ThreadId::of` the thread's object; leave idle alive."
             }

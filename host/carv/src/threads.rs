@@ -85,9 +85,7 @@ impl Board {
     /// # Ok::<(), Refusal>(())
     /// ```
     pub fn block_current(&mut self, wait: Wait) -> Result<(), Refusal> {
-        let (kind, number) = wait.codes();
-        ffi::carv_block_current(&mut self.area, kind, number)?;
-        Ok(())
+        self.block_current_by_code(wait.codes())
     }
 
     /// Makes a Blocked thread Ready, at the queue's end, with these results.
@@ -112,9 +110,7 @@ impl Board {
     /// Is the thread Blocked on just this wait? No if there is no such thread. For an example see
     /// [`block_current`](Self::block_current).
     pub fn is_blocked_on(&self, id: ThreadId, wait: Wait) -> Result<bool, Refusal> {
-        let (kind, number) = wait.codes();
-        let words = ffi::carv_is_blocked_on(&self.area, id.0, kind, number)?;
-        Ok(words[0] == 1)
+        self.is_blocked_on_by_code(id, wait.codes())
     }
 
     /// Ends a thread, logs its end, and answers the wait that this ended. The current thread stays,
@@ -132,8 +128,7 @@ impl Board {
     /// # Ok::<(), Refusal>(())
     /// ```
     pub fn kill(&mut self, id: ThreadId, cause: Cause) -> Result<Option<Wait>, Refusal> {
-        let words = ffi::carv_kill(&mut self.area, id.0, cause.code())?;
-        Wait::decode(words[0], words[1])
+        self.kill_by_code(id, cause.code())
     }
 
     /// Books tick `n` to the current thread: one run tick more, and its budget, renewed if that is

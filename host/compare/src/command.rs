@@ -3,22 +3,30 @@
 use std::io::{self, BufWriter, Write};
 use std::process::ExitCode;
 
-/// Runs a program called `name` on the arguments of its command line.
-///
-/// `work` answers how the program was called wrongly, or else what went wrong with it. The exit
-/// status is 0 if all went well, 1 if not, 2 if called wrongly.
-pub fn program(
-    name: &str,
-    help: &str,
-    work: impl FnOnce(&[&str]) -> Result<Result<(), String>, String>,
-) -> ExitCode {
+/// How a program was called wrongly, or else what went wrong with it.
+pub type Done = Result<Result<(), String>, String>;
+
+/// Runs a program called `name` on the arguments of its command line, as [`run`] does.
+pub fn program(name: &str, help: &str, work: impl FnOnce(&[&str]) -> Done) -> ExitCode {
     let arguments: Vec<String> = std::env::args().skip(1).collect();
     let arguments: Vec<&str> = arguments.iter().map(String::as_str).collect();
-    if let ["--help" | "-h"] = arguments[..] {
+    run(name, help, &arguments, work)
+}
+
+/// Runs a program, or a command of one, on its arguments: prints its help if they ask for it.
+///
+/// The exit status is 0 if all went well, 1 if not, 2 if called wrongly.
+pub fn run(
+    name: &str,
+    help: &str,
+    arguments: &[&str],
+    work: impl FnOnce(&[&str]) -> Done,
+) -> ExitCode {
+    if let ["--help" | "-h"] = arguments {
         print!("{help}");
         return ExitCode::SUCCESS;
     }
-    let (why, status) = match work(&arguments) {
+    let (why, status) = match work(arguments) {
         Ok(Ok(())) => return ExitCode::SUCCESS,
         Ok(Err(why)) => (why, 1),
         Err(why) => (format!("{why}; see {name} --help"), 2),
@@ -27,19 +35,33 @@ pub fn program(
     ExitCode::from(status)
 }
 
-/// The command `write COUNT SEED` of a program that writes records.
-///
-/// # Errors
-/// As for [`program`].
-pub fn write_command<const BYTES: usize, R: Iterator<Item = [u8; BYTES]>>(
-    arguments: &[&str],
+/// Runs a program that writes records, of which `about` says in its help what they are.
+pub fn record_program<const BYTES: usize, R: Iterator<Item = [u8; BYTES]>>(
+    name: &str,
+    about: &str,
     records: impl FnOnce(u64) -> R,
-) -> Result<Result<(), String>, String> {
-    let ["write", count, seed] = arguments else {
-        return Err("expected `write COUNT SEED`".to_string());
-    };
-    let (count, seed) = numbers(count, seed)?;
-    Ok(write_out(records(seed), count))
+) -> ExitCode {
+    let words = BYTES / 8;
+    let help = format!(
+        "\
+{about}
+
+usage: {name} write COUNT SEED
+       {name} --help
+
+write  writes COUNT records of {words} little-endian 64-bit words to standard output
+
+COUNT and SEED are numbers below 2^64; a seed fixes the records.
+Exit status: 0 if all went well, 1 if not, 2 if called wrongly.
+"
+    );
+    program(name, &help, |arguments| {
+        let ["write", count, seed] = arguments else {
+            return Err("expected `write COUNT SEED`".to_string());
+        };
+        let (count, seed) = numbers(count, seed)?;
+        Ok(write_out(records(seed), count))
+    })
 }
 
 /// Writes the first `count` of records without end to standard output.
@@ -97,4 +119,24 @@ pub fn little_endian<const BYTES: usize>(words: &[u64]) -> [u8; BYTES] {
         place.copy_from_slice(&word.to_le_bytes());
     }
     bytes
+}
+
+#[cfg(test)]
+mod tests {
+    use super::*;
+
+    #[test]
+    fn exit_statuses() {
+        let status = |arguments: &[&str], done: Done| {
+            let code = run("name", "help\n", arguments, |_| done);
+            format!("{code:?}")
+        };
+        let expected = |status: u8| format!("{:?}", ExitCode::from(status));
+        let why = || "what went wrong".to_string();
+        assert_eq!(status(&[], Ok(Ok(()))), expected(0));
+        assert_eq!(status(&[], Ok(Err(why()))), expected(1));
+        assert_eq!(status(&[], Err(why())), expected(2));
+        assert_eq!(status(&["--help"], Err(why())), expected(0));
+        assert_eq!(status(&["--help", "more"], Err(why())), expected(2));
+    }
 }

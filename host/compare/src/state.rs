@@ -27,11 +27,6 @@ pub fn account_of(state: &Snapshot, id: u64) -> Account {
         .unwrap_or_default()
 }
 
-/// Memory that an account may still use or reserve.
-pub fn free(account: &Account) -> u64 {
-    account.memory_limit - account.memory_reserved - account.memory_used
-}
-
 /// The account at this time, renewed if that is due.
 pub fn renewed(account: Account, time: u64) -> Account {
     account::refill(account, time).account.unwrap_or_default()

@@ -5,42 +5,10 @@
 
 use crate::carv_budget::{Budget, BudgetError};
 
+pub use carv_layout::area::Account;
+
 /// The CPU period of every account, in nanoseconds.
 pub const PERIOD: u64 = crate::objects::CPU_PERIOD_NS;
-
-/// The figures of an account: its limits, its start and its line.
-#[derive(Clone, Copy, Debug, Default, PartialEq, Eq)]
-pub struct Account {
-    /// CPU time in each period, in nanoseconds.
-    pub cpu_allowance: u64,
-    /// Memory that may be used and reserved, in bytes.
-    pub memory_limit: u64,
-    /// Start of the current period, in nanoseconds.
-    pub period_start: u64,
-    /// CPU time left in the current period.
-    pub cpu_left: u64,
-    /// CPU time reserved for children.
-    pub cpu_reserved: u64,
-    /// Memory in use.
-    pub memory_used: u64,
-    /// Memory reserved for children.
-    pub memory_reserved: u64,
-}
-
-impl Account {
-    /// The figures in the order of the fields.
-    pub const fn words(self) -> [u64; 7] {
-        [
-            self.cpu_allowance,
-            self.memory_limit,
-            self.period_start,
-            self.cpu_left,
-            self.cpu_reserved,
-            self.memory_used,
-            self.memory_reserved,
-        ]
-    }
-}
 
 /// What a call answers, and the accounts as it leaves them.
 #[derive(Clone, Copy, Debug, PartialEq, Eq)]

@@ -1,10 +1,12 @@
 //! The day, run on a board tick by tick.
 
-use crate::record::{Day, Doing, Entry};
+use crate::calls::Listed;
+use crate::record::{Day, Entry};
 use crate::services::{BOARD, EVENTS, Event, FIRST, LAST, PERIOD, SERVICES, Service};
 use crate::setup::{Live, switch_off, switch_on};
-use crate::text::grouped;
-use carv::{Board, Limits, ObjectId, Refusal, State, TICK_NS, ThreadId, Wait};
+use carv::{Board, Limits, ObjectId, Refusal, TICK_NS, ThreadId, Wait};
+use carv_picture::Doing;
+use carv_picture::text::grouped;
 
 /// Runs the day.
 pub fn run() -> Result<Day, Refusal> {
@@ -45,7 +47,7 @@ impl Part {
 }
 
 struct Sorter {
-    board: Board,
+    board: Listed,
     parts: [Part; SERVICES.len()],
     day: Day,
 }
@@ -54,10 +56,11 @@ impl Sorter {
     /// Opens the board, and lets thread 0 set up the services in the period before the first.
     fn open() -> Result<Self, Refusal> {
         let mut sorter = Self {
-            board: Board::open(BOARD)?,
+            board: Listed::new(),
             parts: Default::default(),
-            day: Day::default(),
+            day: Day::new(),
         };
+        sorter.board.open(BOARD)?;
         for index in 0..SERVICES.len() {
             sorter.parts[index].draws = index as u64;
             sorter.switch_on(index, 0)?;
@@ -66,12 +69,10 @@ impl Sorter {
             sorter.board.tick(tick)?;
         }
         let left = sorter.board.account(ObjectId::ROOT)?.cpu_left_at(0) / TICK_NS;
-        sorter.note(
-            0,
-            format!(
-                "set-up: five services carved out; {left} ms of every 10 ms stays with the root"
-            ),
+        let text = format!(
+            "set-up: five services carved out; {left} ms of every 10 ms stays with the root"
         );
+        sorter.note(0, 0, text);
         sorter.board.block_current(Wait::Notification(0))?;
         sorter.plan(FIRST - 1)?;
         Ok(sorter)
@@ -81,7 +82,9 @@ impl Sorter {
     /// service that has none left sleeps, and the next thread is planned.
     fn tick(&mut self, tick: u64) -> Result<(), Refusal> {
         let ran = self.service_of(self.board.current()?);
+        let before = self.board.clone();
         self.board.tick(tick)?;
+        self.day.trace.tick(tick, &before, &self.board);
         if let Some(index) = ran {
             self.parts[index].backlog -= 1;
             self.check_booking(index, tick)?;
@@ -110,110 +113,108 @@ impl Sorter {
         self.parts.iter().position(is_its)
     }
 
-    /// Plans, and notes what each service does in the ms that comes.
+    /// Plans, and notes the memory that each service uses.
     fn plan(&mut self, tick: u64) -> Result<(), Refusal> {
         self.board.plan(tick)?;
-        for (part, course) in self.parts.iter().zip(&mut self.day.courses) {
-            let Some(live) = &part.live else {
-                continue;
-            };
-            let account = self.board.account(live.budget)?;
-            let doing = match self.board.read_thread(live.thread)?.state {
-                State::Running => Doing::Runs,
-                State::Ready if account.cpu_left_at(tick * TICK_NS) == 0 => Doing::HeldBack,
-                State::Ready => Doing::Waits,
-                _ => Doing::Sleeps,
-            };
-            course.note(tick + 1, doing);
-            course.memory = course.memory.max(account.memory_used_bytes);
+        for (part, noted) in self.parts.iter().zip(&mut self.day.noted) {
+            if let Some(live) = &part.live {
+                let account = self.board.account(live.budget)?;
+                noted.memory = noted.memory.max(account.memory_used_bytes);
+            }
         }
         Ok(())
     }
 
     /// Compares the account of a service that just ran with what it was seen to run in this period.
     fn check_booking(&mut self, index: usize, tick: u64) -> Result<(), Refusal> {
+        let Some(live) = &self.parts[index].live else {
+            return Ok(());
+        };
         let start = tick - tick % PERIOD;
-        let course = &self.day.courses[index];
-        let ran = (start..=tick).filter(|tick| course.doing(*tick) == Doing::Runs);
-        let ran = ran.count() as u64 * TICK_NS;
-        if let Some(live) = &self.parts[index].live {
-            let account = self.board.account(live.budget)?;
-            let booked = account.limits.cpu_ns - account.cpu_left_ns;
-            if (account.period_start_ns, booked) != (start * TICK_NS, ran) {
-                self.day.misbooked += 1;
-            }
+        let runs = |tick: &u64| self.day.trace.doing(live.budget, *tick) == Some(Doing::Runs);
+        let ran = (start..=tick).filter(runs).count() as u64 * TICK_NS;
+        let account = self.board.account(live.budget)?;
+        let booked = account.limits.cpu_ns - account.cpu_left_ns;
+        if (account.period_start_ns, booked) != (start * TICK_NS, ran) {
+            self.day.misbooked += 1;
         }
         Ok(())
     }
 
-    fn note(&mut self, tick: u64, text: String) {
+    /// Notes what happened, in the list of calls before those that came with it: behind the first
+    /// so many lines.
+    fn note(&mut self, behind: usize, tick: u64, text: String) {
+        let line = text.lines().next().unwrap_or_default();
+        let mut comment = format!("{} ms: {line}", grouped(tick));
+        if tick >= FIRST {
+            let events = self.day.diary.iter().filter(|entry| entry.tick >= FIRST);
+            comment = format!("event {}, {comment}", events.count() + 1);
+            self.day.trace.event(tick, line.to_string());
+        }
+        self.board.comment(behind, &comment);
         self.day.diary.push(Entry { tick, text });
     }
 
     fn happen(&mut self, event: Event, tick: u64) -> Result<(), Refusal> {
-        match event {
-            Event::Off(index) => self.switch_off(index, tick),
+        let behind = self.board.length();
+        let text = match event {
+            Event::Off(index) => self.switch_off(index)?,
             Event::On(index) => {
                 self.switch_on(index, tick)?;
-                self.note(
-                    tick,
-                    format!("{} on again, under new ids", SERVICES[index].name),
-                );
-                Ok(())
+                format!("{} on again, under new ids", SERVICES[index].name)
             }
-            Event::Ask(name, limits) => self.ask(name, limits, tick),
-            Event::Note(text) => {
-                self.note(tick, text.to_string());
-                Ok(())
-            }
-        }
+            Event::Ask(name, limits) => self.ask(name, limits, tick)?,
+            Event::Note(text) => text.to_string(),
+        };
+        self.note(behind, tick, text);
+        Ok(())
     }
 
     fn switch_on(&mut self, index: usize, tick: u64) -> Result<(), Refusal> {
         let (part, service) = (&mut self.parts[index], &SERVICES[index]);
-        part.live = Some(switch_on(&mut self.board, service, tick)?);
+        let live = switch_on(&mut self.board, service, tick)?;
+        self.day.trace.name(live.budget, service.name);
+        part.live = Some(live);
         // A service looks around once after its start.
         part.backlog = 1;
         part.draw(service, tick);
         Ok(())
     }
 
-    fn switch_off(&mut self, index: usize, tick: u64) -> Result<(), Refusal> {
+    /// Switches a service off, and says what it left.
+    fn switch_off(&mut self, index: usize) -> Result<String, Refusal> {
+        let name = SERVICES[index].name;
         let Some(live) = self.parts[index].live.take() else {
-            return Ok(());
+            return Ok(format!("{name} is off already"));
         };
-        self.day.courses[index].run_ticks += self.board.read_thread(live.thread)?.run_ticks;
+        self.day.noted[index].run_ticks += self.board.read_thread(live.thread)?.run_ticks;
         let left = switch_off(&mut self.board, live)?;
         let wait = match left.wait {
             Some(Wait::Sleep(until)) => format!("asleep until {} ms", grouped(until)),
             _ => "in the middle of its work".to_string(),
         };
-        let text = format!(
-            "{} off: thread killed, {wait}; {} objects and its budget removed",
-            SERVICES[index].name, left.objects
-        );
-        self.note(tick, text);
-        Ok(())
+        Ok(format!(
+            "{name} off: thread killed, {wait}; {} objects and its budget removed",
+            left.objects
+        ))
     }
 
-    /// Asks for a budget that the root can't cover.
-    fn ask(&mut self, name: &str, limits: Limits, tick: u64) -> Result<(), Refusal> {
+    /// Asks for a budget that the root can't cover, and says what comes of it.
+    fn ask(&mut self, name: &str, limits: Limits, tick: u64) -> Result<String, Refusal> {
         let now = tick * TICK_NS;
         // Renewed first, as a refused carve-out keeps a renewal that was due.
         self.board.refill(ObjectId::ROOT, now)?;
         let before = self.board.clone();
         let asked = self.board.create_budget(ObjectId::ROOT, limits, now);
-        self.day.refused_cleanly = asked.is_err() && self.board == before;
+        self.day.refused_cleanly = asked.is_err() && *self.board == before;
         let share = limits.cpu_ns / TICK_NS;
-        let text = match asked {
+        Ok(match asked {
             Ok(_) => format!("{name} asks for {share} ms of every 10 ms and gets it"),
             Err(refusal) => format!(
                 "{name} asks for {share} ms of every 10 ms: {refusal}.\n{}",
                 refusal.advice()
             ),
-        };
-        self.note(tick, text);
-        Ok(())
+        })
     }
 
     /// Notes the figures of the day's end.
@@ -223,14 +224,16 @@ impl Sorter {
             parts,
             mut day,
         } = self;
-        for (part, course) in parts.iter().zip(&mut day.courses) {
+        for (part, noted) in parts.iter().zip(&mut day.noted) {
             if let Some(live) = &part.live {
-                course.run_ticks += board.read_thread(live.thread)?.run_ticks;
+                noted.run_ticks += board.read_thread(live.thread)?.run_ticks;
             }
         }
         day.switches = board.switches()?;
         day.idle_run_ticks = board.read_thread(ThreadId::IDLE)?.run_ticks;
-        day.sound = Board::from_bytes(board.as_bytes()).is_ok_and(|restored| restored == board);
+        (day.board, day.calls) = board.into_parts();
+        let restored = Board::from_bytes(day.board.as_bytes());
+        day.sound = restored.is_ok_and(|restored| restored == day.board);
         Ok(day)
     }
 }

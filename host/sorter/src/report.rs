@@ -1,9 +1,10 @@
 //! The day in words: a diary, a table of what each service got against its share, and checks.
 
-use crate::record::{Day, Doing};
+use crate::record::Day;
 use crate::services::{PERIOD, PERIODS, SERVICES};
-use crate::text::grouped;
-use carv::PERIOD_NS;
+use carv::{PERIOD_NS, TICK_NS};
+use carv_picture::text::{grouped, ms, wrapped};
+use carv_picture::{Rows, Total};
 
 /// Something that must hold of the day.
 #[derive(Debug)]
@@ -14,14 +15,26 @@ pub struct Check {
     pub holds: bool,
 }
 
+/// What each service got, in the order of [`SERVICES`], and what idle got.
+fn totals(day: &Day) -> ([Total; SERVICES.len()], Total) {
+    let rows = Rows::new(&day.trace);
+    let services = SERVICES.map(|service| rows.budget(service.name));
+    let total = services.map(|row| row.map_or_else(Total::default, |row| row.total));
+    let idle = rows.idle().map_or_else(Total::default, |row| row.total);
+    (total, idle)
+}
+
 /// What must hold of the day.
 pub fn checks(day: &Day) -> Vec<Check> {
-    let courses = || day.courses.iter().zip(&SERVICES);
-    let seen = courses().all(|(course, _)| course.run_ticks == course.in_all(Doing::Runs));
+    let (totals, idle) = totals(day);
+    let got = || totals.iter().zip(&SERVICES);
+    let noted = || day.noted.iter().zip(&SERVICES);
+    let mut seen = totals.iter().zip(&day.noted);
+    let seen = seen.all(|(total, noted)| noted.run_ticks == total.ms_ran);
     let claims = [
         (
             "No service got more than its share in any period.",
-            courses().all(|(course, service)| course.most() <= service.share),
+            got().all(|(total, service)| total.most_ns <= service.share * TICK_NS),
         ),
         (
             "After every tick the account of the service that ran said what it was seen to run.",
@@ -29,15 +42,15 @@ pub fn checks(day: &Day) -> Vec<Check> {
         ),
         (
             "The board's run ticks, idle's included, are what was seen to run.",
-            seen && day.idle_in_all() == day.idle_run_ticks,
+            seen && idle.ms_ran == day.idle_run_ticks,
         ),
         (
             "Every service kept to its memory limit.",
-            courses().all(|(course, service)| course.memory <= service.memory),
+            noted().all(|(noted, service)| noted.memory <= service.memory),
         ),
         (
             "Counting was never held back.",
-            day.courses[0].periods_held_back() == 0,
+            totals[0].periods_held_back == 0,
         ),
         (
             "The refused carve-out left every byte of the board.",
@@ -88,23 +101,6 @@ fn diary(day: &Day) -> Vec<String> {
     lines
 }
 
-/// A text in lines of at most this width.
-fn wrapped(text: &str, width: usize) -> Vec<String> {
-    let mut lines = vec![String::new()];
-    for word in text.split(' ') {
-        let line = lines.last_mut().expect("there is a first");
-        if line.is_empty() {
-            line.push_str(word);
-        } else if line.len() + 1 + word.len() <= width {
-            line.push(' ');
-            line.push_str(word);
-        } else {
-            lines.push(word.to_string());
-        }
-    }
-    lines
-}
-
 fn table(day: &Day) -> Vec<String> {
     let mut lines = vec![
         format!(
@@ -116,15 +112,16 @@ fn table(day: &Day) -> Vec<String> {
             "service", "share", "average", "most", "periods", "used", "limit"
         ),
     ];
-    for (course, service) in day.courses.iter().zip(&SERVICES) {
-        let held = format!("{} of {}", course.periods_held_back(), course.periods_on());
+    let (totals, idle) = totals(day);
+    for ((total, noted), service) in totals.iter().zip(&day.noted).zip(&SERVICES) {
+        let held = format!("{} of {}", total.periods_held_back, total.periods_on);
         lines.push(format!(
             "  {:<12}{:>7}{:>10.2}{:>8}{held:>18}{:>12}{:>11}",
             service.name,
             service.share,
-            course.average(),
-            course.most(),
-            grouped(course.memory),
+            total.average_ms(),
+            ms(total.most_ns),
+            grouped(noted.memory),
             grouped(service.memory)
         ));
     }
@@ -133,11 +130,11 @@ fn table(day: &Day) -> Vec<String> {
         "  {:<12}{:>7}{:>10.2}{:>8}",
         "idle",
         PERIOD - given,
-        day.idle_average(),
-        day.idle_most()
+        idle.average_ms(),
+        ms(idle.most_ns)
     ));
     lines.push(String::new());
-    lines.push("  Averages are over the time that a service was switched on.".to_string());
+    lines.push("  Averages are over the periods in which a service was switched on.".to_string());
     lines.push("  Idle has as its share what no service was given.".to_string());
     lines
 }

@@ -29,7 +29,6 @@ pub const SERVICES: [Service; 5] = [
         share: 4,
         memory: 96 * KIB,
         frames: 10,
-        colour: "#0072b2",
         work: &[work(0, 5, 0, 2), work(RUSH, 5, 1, 2), work(CALM, 5, 0, 2)],
     },
     Service {
@@ -37,7 +36,6 @@ pub const SERVICES: [Service; 5] = [
         share: 1,
         memory: 64 * KIB,
         frames: 2,
-        colour: "#d55e00",
         work: &[
             work(0, 20, 0, 1),
             work(RUSH, 10, 0, 1),
@@ -49,7 +47,6 @@ pub const SERVICES: [Service; 5] = [
         share: 1,
         memory: 80 * KIB,
         frames: 6,
-        colour: "#009e73",
         work: &[work(0, 90, 3, 5)],
     },
     Service {
@@ -57,7 +54,6 @@ pub const SERVICES: [Service; 5] = [
         share: 1,
         memory: 112 * KIB,
         frames: 14,
-        colour: "#cc79a7",
         work: &[work(0, 20, 1, 1)],
     },
     Service {
@@ -65,7 +61,6 @@ pub const SERVICES: [Service; 5] = [
         share: 2,
         memory: 80 * KIB,
         frames: 5,
-        colour: "#e69f00",
         work: &[
             work(0, 40, 1, 3),
             work(OVERRUN, 10, 4, 4),
@@ -122,8 +117,6 @@ pub struct Service {
     pub memory: u64,
     /// Frames that it takes beside its address space, thread and endpoint.
     pub frames: usize,
-    /// Its colour in the picture.
-    pub colour: &'static str,
     /// Its work, by rising start.
     pub work: &'static [Work],
 }

@@ -1,9 +1,8 @@
 //! Switching a service on and off.
 
+use crate::calls::Listed;
 use crate::services::Service;
-use carv::{
-    Backing, Board, Cause, Context, Kind, ObjectId, Refusal, Space, TICK_NS, ThreadId, Wait,
-};
+use carv::{Backing, Cause, Context, Kind, ObjectId, Refusal, Space, TICK_NS, ThreadId, Wait};
 
 /// A service that is switched on.
 #[derive(Debug)]
@@ -15,8 +14,9 @@ pub struct Live {
 }
 
 /// Carves out a service's budget, creates its objects and starts its thread.
-pub fn switch_on(board: &mut Board, service: &Service, tick: u64) -> Result<Live, Refusal> {
+pub fn switch_on(board: &mut Listed, service: &Service, tick: u64) -> Result<Live, Refusal> {
     let budget = board.create_budget(ObjectId::ROOT, service.limits(), tick * TICK_NS)?;
+    board.name(budget, service.name);
     let space = board.create(Kind::AddressSpace, budget, Backing::There)?;
     let thread = board.insert(Kind::Thread, budget, Kind::Thread.bytes())?;
     let endpoint = board.create(Kind::Endpoint, budget, Backing::There)?;
@@ -48,7 +48,7 @@ pub struct Left {
 }
 
 /// Kills a service's thread, and removes its objects and its budget.
-pub fn switch_off(board: &mut Board, live: Live) -> Result<Left, Refusal> {
+pub fn switch_off(board: &mut Listed, live: Live) -> Result<Left, Refusal> {
     let wait = board.kill(live.thread, Cause::Destroyed)?;
     for object in &live.objects {
         board.remove(*object)?;

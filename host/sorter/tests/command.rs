@@ -25,11 +25,23 @@ fn runs_the_day() {
 }
 
 #[test]
+fn writes_the_calls() {
+    let output = sorter(&["--calls", "day.calls", "--svg", "of_calls.svg"]);
+    assert_eq!(status(&output), Some(0));
+    let text = String::from_utf8(output.stdout).expect("text");
+    assert!(text.ends_with("The list of calls is in day.calls.\n"));
+    let list = Path::new(env!("CARGO_TARGET_TMPDIR")).join("day.calls");
+    let list = std::fs::read_to_string(list).expect("it was written");
+    let day = sorter::day::run().expect("the day is as always");
+    assert_eq!(list, day.calls.join("\n") + "\n");
+}
+
+#[test]
 fn helps() {
     let output = sorter(&["--help"]);
     assert_eq!(status(&output), Some(0));
     let text = String::from_utf8(output.stdout).expect("text");
-    assert!(text.contains("usage: sorter [--svg PATH] [--from MS]"));
+    assert!(text.contains("usage: sorter [--svg PATH] [--from MS] [--calls PATH]"));
     assert!(text.lines().all(|line| line.len() <= 100));
 }
 
@@ -38,6 +50,7 @@ fn called_wrongly() {
     for arguments in [
         &["day"][..],
         &["--svg"],
+        &["--calls"],
         &["--from", "noon"],
         &["--from", "3000"],
         &["--help", "day"],
@@ -51,9 +64,12 @@ fn called_wrongly() {
 }
 
 #[test]
-fn no_place_for_the_picture() {
-    let output = sorter(&["--svg", "no such folder/day.svg"]);
-    assert_eq!(status(&output), Some(1));
-    let text = String::from_utf8(output.stderr).expect("text");
-    assert!(text.contains("can't be written to no such folder/day.svg"));
+fn no_place_for_a_file() {
+    for (option, what) in [("--svg", "picture"), ("--calls", "list of calls")] {
+        let output = sorter(&["--svg", "of_no_place.svg", option, "no such folder/day"]);
+        assert_eq!(status(&output), Some(1));
+        let text = String::from_utf8(output.stderr).expect("text");
+        let why = format!("the {what} can't be written to no such folder/day: ");
+        assert!(text.contains(&why), "{text}");
+    }
 }

@@ -1,15 +1,34 @@
 //! The day: its checks hold, and see what they are for.
 
-use sorter::record::{Day, Doing};
+use carv::{
+    Backing, Board, Context, Kind, Limits, ObjectId, Refusal, Space, TICK_NS, ThreadId, Wait,
+};
+use carv_picture::{Doing, Part, Rows, SHOWN, Trace};
+use sorter::day;
+use sorter::picture::{self, BEGINS};
+use sorter::record::Day;
 use sorter::report::{checks, report};
-use sorter::services::{FIRST, LAST, PERIOD, PERIODS, SERVICES, WINDOW};
-use sorter::{day, picture};
+use sorter::services::{BOARD, FIRST, LAST, PERIOD, PERIODS, SERVICES, WINDOW};
 
+const COUNTING: usize = 0;
 const PRINTER: usize = 2;
 const UPLOAD: usize = 4;
 
 fn run() -> Day {
     day::run().expect("only the carve-out that is noted is refused")
+}
+
+/// What a service did in each period of the day.
+fn course(day: &Day, index: usize) -> Vec<Part> {
+    let rows = Rows::new(&day.trace);
+    let name = SERVICES[index].name;
+    let row = rows.rows().iter().position(|row| row.name == name);
+    let row = row.expect("each service has a row");
+    let part = |period| rows.in_period(period).get(&row).copied();
+    let periods = FIRST / PERIOD..FIRST / PERIOD + PERIODS;
+    periods
+        .map(|period| part(period).unwrap_or_default())
+        .collect()
 }
 
 #[test]
@@ -23,43 +42,51 @@ fn every_check_holds() {
 #[test]
 fn shares() {
     let day = run();
-    for tick in FIRST..=LAST {
-        let courses = day.courses.iter();
-        let running = courses.filter(|course| course.doing(tick) == Doing::Runs);
-        assert!(running.count() <= 1, "tick {tick}");
-    }
-    for (course, service) in day.courses.iter().zip(&SERVICES) {
-        for first in (FIRST..=LAST).step_by(PERIOD as usize) {
-            let ticks = first..first + PERIOD;
-            let ran = ticks.filter(|tick| course.doing(*tick) == Doing::Runs);
-            assert!(
-                ran.count() as u64 <= service.share,
-                "{} at {first}",
-                service.name
+    let courses: Vec<_> = (0..SERVICES.len())
+        .map(|index| course(&day, index))
+        .collect();
+    for period in 0..PERIODS as usize {
+        for place in 0..PERIOD as usize {
+            let doing = courses.iter().map(|course| course[period].doing[place]);
+            let running = doing.filter(|doing| *doing == Some(Doing::Runs));
+            assert!(running.count() <= 1, "period {period}, ms {place}");
+        }
+        for (course, service) in courses.iter().zip(&SERVICES) {
+            let part = course[period];
+            let name = service.name;
+            assert!(part.ms(Doing::Runs) <= service.share, "{name} in {period}");
+            assert_eq!(
+                part.got_ns,
+                part.ms(Doing::Runs) * TICK_NS,
+                "{name} in {period}"
             );
         }
     }
 }
 
+/// It keeps one row, though it comes back under another id.
 #[test]
 fn the_printer_is_off_for_a_while() {
-    let printer = &run().courses[PRINTER];
-    for tick in FIRST..=LAST {
-        let off = printer.doing(tick) == Doing::Off;
+    let day = run();
+    let printer = course(&day, PRINTER);
+    let doing = printer.iter().flat_map(|part| part.doing);
+    for (tick, doing) in (FIRST..=LAST).zip(doing) {
+        let off = doing.is_none_or(|doing| doing == Doing::Off);
         assert_eq!(off, (1_204..=1_803).contains(&tick), "tick {tick}");
     }
+    let rows = Rows::new(&day.trace);
+    let names: Vec<&str> = rows.rows().iter().map(|row| row.name.as_str()).collect();
+    let services = SERVICES.iter().map(|service| service.name);
+    assert_eq!(names, services.chain(["idle"]).collect::<Vec<_>>());
 }
 
 /// While it overruns, upload gets the whole of its share in each period, and is held back in each.
 #[test]
 fn upload_overruns() {
-    let upload = &run().courses[UPLOAD];
-    for period in (2_100 - FIRST) / PERIOD..(2_400 - FIRST) / PERIOD {
-        assert_eq!(
-            upload.in_period(period, Doing::Runs),
-            SERVICES[UPLOAD].share
-        );
-        assert!(upload.is_held_back(period));
+    let upload = course(&run(), UPLOAD);
+    for part in &upload[(2_100 - FIRST) as usize / 10..(2_400 - FIRST) as usize / 10] {
+        assert_eq!(part.got_ns, SERVICES[UPLOAD].share * TICK_NS);
+        assert!(part.held_back);
     }
 }
 
@@ -86,15 +113,48 @@ fn the_report_tells() {
     assert!(!report.contains("NO"));
 }
 
+/// Shows the trace a tick of another board, on which a budget of this share, under the name of a
+/// service, has a thread that wants to run.
+fn show_another(trace: &mut Trace, index: usize, share_ns: u64, tick: u64) {
+    let (board, budget) = another(share_ns).expect("all is there");
+    let mut after = board.clone();
+    after.tick(tick).expect("it is a tick");
+    trace.name(budget, SERVICES[index].name);
+    trace.tick(tick, &board, &after);
+}
+
+/// A board with such a budget, under an id that the day doesn't have.
+fn another(cpu_ns: u64) -> Result<(Board, ObjectId), Refusal> {
+    let mut board = Board::open(BOARD)?;
+    for _ in 0..1_000 {
+        let object = board.create(Kind::Endpoint, ObjectId::ROOT, Backing::There)?;
+        board.remove(object)?;
+    }
+    let limits = Limits {
+        cpu_ns,
+        memory_bytes: 0,
+    };
+    let budget = board.create_budget(ObjectId::ROOT, limits, 0)?;
+    let thread = ThreadId::of(budget);
+    board.create_user_thread(thread, budget, Backing::There)?;
+    board.start(thread, Space::default(), Context::default())?;
+    board.block_current(Wait::Notification(0))?;
+    board.plan(0)?;
+    Ok((board, budget))
+}
+
 /// Each check sees a day on which what it claims doesn't hold.
 #[test]
 fn checks_fail() {
     let spoilers: [fn(&mut Day); 7] = [
-        |day| (FIRST..FIRST + PERIOD).for_each(|tick| day.courses[UPLOAD].note(tick, Doing::Runs)),
+        |day| {
+            let ticks = FIRST..FIRST + PERIOD;
+            ticks.for_each(|tick| show_another(&mut day.trace, UPLOAD, TICK_NS, tick));
+        },
         |day| day.misbooked = 1,
         |day| day.idle_run_ticks += 1,
-        |day| day.courses[PRINTER].memory = SERVICES[PRINTER].memory + 1,
-        |day| day.courses[0].note(FIRST + 1, Doing::HeldBack),
+        |day| day.noted[PRINTER].memory = SERVICES[PRINTER].memory + 1,
+        |day| show_another(&mut day.trace, COUNTING, 0, FIRST + 1),
         |day| day.refused_cleanly = false,
         |day| day.sound = false,
     ];
@@ -111,31 +171,31 @@ fn checks_fail() {
 fn every_day_is_the_same() {
     let (first, second) = (run(), run());
     assert_eq!(report(&first), report(&second));
-    let shown = picture::shown_from(WINDOW).expect("on the day");
-    let drawn = picture::draw(&first, shown.clone());
-    assert_eq!(drawn, picture::draw(&second, shown));
+    assert_eq!(first.calls, second.calls);
+    let drawn = picture::draw(&first, WINDOW);
+    assert_eq!(drawn, picture::draw(&second, WINDOW));
 }
 
 #[test]
 fn the_picture() {
-    let shown = picture::shown_from(WINDOW).expect("on the day");
-    let svg = picture::draw(&run(), shown);
+    let svg = picture::draw(&run(), WINDOW);
     assert!(svg.starts_with("<?xml") && svg.ends_with("</svg>\n"));
     for service in SERVICES {
-        assert!(svg.contains(&format!(">{}</text>", service.name)));
-        assert!(svg.contains(service.colour));
+        let name = format!(">{}</text>", service.name);
+        assert_eq!(svg.matches(&name).count(), 2, "{name}");
     }
-    // Nothing is fetched from elsewhere: the only address is the name of the format.
-    assert_eq!(svg.matches("http").count(), 1);
-    assert_eq!(svg.matches("<text").count(), svg.matches("</text>").count());
+    assert!(svg.contains("ticks 2,060 to 2,159"));
+    for event in ["camera asks", "bag printer off", "upload overruns"] {
+        assert!(svg.contains(event), "{event}");
+    }
+    assert!(!svg.contains("set-up"));
 }
 
+/// Ten periods follow each tick that the picture may begin with, and fewer the next.
 #[test]
 fn what_can_be_shown() {
-    assert_eq!(picture::shown_from(FIRST), Some(0..10));
-    assert_eq!(picture::shown_from(FIRST + 9), Some(0..10));
-    assert_eq!(picture::shown_from(LAST - 99), Some(PERIODS - 10..PERIODS));
-    for tick in [0, FIRST - 1, LAST - 89, LAST, u64::MAX] {
-        assert_eq!(picture::shown_from(tick), None, "{tick}");
-    }
+    assert_eq!(BEGINS, FIRST..=LAST - 90);
+    let shown = SHOWN * PERIOD - 1;
+    let begin = BEGINS.end() - BEGINS.end() % PERIOD;
+    assert_eq!(begin + shown, LAST);
 }

@@ -2,11 +2,11 @@
 
 use super::Ids;
 use crate::area::{self, NEXT_ID};
-use crate::calls::{self, on_port};
+use crate::edit;
 use crate::port::Port;
 use carv_compare::board::call::{Call, Edit};
 use carv_compare::board::make::{insert, open, remove};
-use carv_compare::board::reference::on_rust;
+use carv_compare::board::rust::on_rust;
 use carv_oracle::account::{Account, PERIOD};
 use carv_oracle::{Board, Value};
 
@@ -34,7 +34,7 @@ impl Boards {
 
     /// Makes a call that is accepted on both sides, and answers the first answer word.
     pub fn make(&mut self, call: Call) -> u64 {
-        assert_eq!(on_port(call, &mut self.port), 0, "{call}");
+        assert_eq!(self.port.make(call), 0, "{call}");
         on_rust(call, &mut self.rust).expect("as on the port");
         self.port.out[0]
     }
@@ -51,7 +51,7 @@ impl Boards {
             }
             Ids::Far => {
                 let next = area::word(&self.port.area, NEXT_ID) + FAR;
-                calls::edit(Edit::NextId(next), &mut self.port.area);
+                edit::apply(Edit::NextId(next), &mut self.port.area);
                 self.rust.set_next_id(next);
             }
         }

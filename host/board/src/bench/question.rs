@@ -1,21 +1,21 @@
 //! Question 1 on a full board: 512 objects, 128 threads, 127 of them in the queue.
 
 use super::boards::{Boards, NOTIFICATION, thread_id};
-use super::{Case, Ids, Line};
+use super::case::Case;
+use super::{Ids, Line};
 use carv_compare::board::make::{block, carve, insert, new_thread, plan, start, wake};
 use carv_compare::board::{IDLE, OBJECTS, THREADS};
 use carv_compare::random::Random;
-use carv_compare::state::free;
 
 /// So much memory that budgets can be carved out of each other again and again.
 const MEMORY: u64 = 1 << 62;
 
 /// Times question 1. `told` gets each line as soon as it is measured.
-pub fn question(mut told: impl FnMut(&Line)) {
+pub fn question(mut told: impl FnMut(Line)) {
     for (ids, name) in [
         (Ids::Dense, "question 1"),
         (Ids::Gaps, "question 1"),
-        (Ids::Far, "question 1, ids against the search"),
+        (Ids::Far, "question 1, against the search"),
     ] {
         let case = Case {
             board: format!("{OBJECTS} objects, {THREADS} threads"),
@@ -25,7 +25,7 @@ pub fn question(mut told: impl FnMut(&Line)) {
             questions: 1.0,
         };
         let port = board(ids).port;
-        told(&case.alone(port, |port| assert!(port.is_sound())));
+        told(case.question(port));
     }
 }
 
@@ -44,7 +44,7 @@ fn board(ids: Ids) -> Boards {
         if place % 2 == 0 {
             boards.make(insert(NOTIFICATION, payer, 1));
         } else {
-            let memory = free(&boards.account(payer)) / 4;
+            let memory = boards.account(payer).memory_free() / 4;
             budgets.push(boards.make(carve(payer, 0, memory, 0)));
         }
     }

@@ -1,108 +1,66 @@
-//! The registry's calls, on boards of several sizes that have no threads but the first two.
+//! The registry's calls.
 
-use super::boards::{Boards, MEMORY, NOTIFICATION};
-use super::{Case, Ids, Line, accepted};
-use crate::port::Port;
-use carv_compare::board::make::{carve, create};
+use super::boards::{MEMORY, NOTIFICATION};
+use super::case::{Case, turn};
+use super::filled::Filled;
+use super::{Ids, Line};
+use carv_compare::board::make::*;
+use carv_compare::board::rust::on_rust;
 use carv_oracle::account::PERIOD;
-use carv_oracle::{Board, Value};
-use std::collections::VecDeque;
-use std::hint::black_box;
 
-/// Budgets below the root, one below the other.
-const DEPTH: u64 = 7;
-/// Objects to each budget, itself included.
-const TO_A_BUDGET: usize = 5;
-
-/// One budget to four other objects, up to eight levels deep.
-struct Filled {
-    boards: Boards,
-    /// The newest budget.
-    newest: u64,
-    /// Objects that are no budgets, with their payers, oldest first.
-    plain: VecDeque<(u64, u64)>,
-}
-
-impl Filled {
-    fn new(objects: usize, ids: Ids) -> Self {
-        let mut filled = Self {
-            boards: Boards::open(MEMORY),
-            newest: 1,
-            plain: VecDeque::new(),
-        };
-        let mut level = 0;
-        for place in 1..objects {
-            filled.boards.leave_gap(ids);
-            if place % TO_A_BUDGET == 0 {
-                level = level % DEPTH + 1;
-                filled.add_budget(level);
-            } else {
-                filled.add_object();
-            }
-        }
-        filled
-    }
-
-    /// A budget of this level: below the root, or below the newest.
-    fn add_budget(&mut self, level: u64) {
-        let parent = if level == 1 { 1 } else { self.newest };
-        let (cpu, memory) = ((PERIOD / 16) >> level, (MEMORY / 16) >> level);
-        self.newest = self.boards.make(carve(parent, cpu, memory, 0));
-    }
-
-    fn add_object(&mut self) {
-        let payer = self.newest;
-        let id = self.boards.make(create(NOTIFICATION, payer, true));
-        self.plain.push_back((id, payer));
-    }
-}
-
-/// Times every call on boards of so many objects. `told` gets each line as soon as it is measured.
-pub fn registry(sizes: &[usize], mut told: impl FnMut(&Line)) {
+/// Times every call on boards of so many objects that have no threads but the first two. `told`
+/// gets each line as soon as it is measured.
+pub fn registry(sizes: &[usize], mut told: impl FnMut(Line)) {
     for objects in sizes.iter().copied() {
         for ids in [Ids::Dense, Ids::Gaps] {
-            let measure = Measure { objects, ids };
-            for line in [
-                Measure::is_sound,
-                Measure::open,
-                Measure::create_and_remove,
-                Measure::remove_oldest_and_create,
-                Measure::insert_and_remove,
-                Measure::create_budget_and_remove,
-                Measure::charge_more_and_uncharge,
-                Measure::refill,
-                Measure::charge_cpu,
-                Measure::pays_for_something,
-                Measure::pays_for_nothing,
-                Measure::account,
-                Measure::charge_of,
-            ] {
-                told(&line(&measure));
-            }
+            let rows = Rows {
+                board: format!("{objects} objects"),
+                ids,
+                filled: |free| Filled::new(objects - free, ids),
+            };
+            rows.tell(&mut told);
         }
     }
 }
 
-/// Measures calls on boards of one size.
-struct Measure {
-    objects: usize,
-    ids: Ids,
+/// Measures the calls on boards of one size.
+pub struct Rows<F: Fn(usize) -> Filled> {
+    pub board: String,
+    pub ids: Ids,
+    /// Makes a board with so many places left for objects.
+    pub filled: F,
 }
 
-impl Measure {
-    /// A board with all its objects.
+impl<F: Fn(usize) -> Filled> Rows<F> {
+    /// Times every call.
+    pub fn tell(&self, told: &mut impl FnMut(Line)) {
+        for line in [
+            Self::is_sound,
+            Self::open,
+            Self::create_and_remove,
+            Self::remove_oldest_and_create,
+            Self::insert_and_remove,
+            Self::create_budget_and_remove,
+            Self::charge_more_and_uncharge,
+            Self::refill,
+            Self::charge_cpu,
+            Self::pays_for_something,
+            Self::pays_for_nothing,
+            Self::account,
+            Self::charge_of,
+        ] {
+            told(line(self));
+        }
+    }
+
     fn full(&self) -> Filled {
-        Filled::new(self.objects, self.ids)
+        (self.filled)(0)
     }
 
-    /// A board with a place left, for pairs that create an object and remove it again.
-    fn with_a_place(&self) -> Filled {
-        Filled::new(self.objects - 1, self.ids)
-    }
-
+    /// A call, or two that undo each other; the time is that of one.
     fn case(&self, name: &'static str, calls: f64) -> Case {
         Case {
-            board: format!("{} objects", self.objects),
+            board: self.board.clone(),
             ids: self.ids,
             name,
             parts: calls,
@@ -110,212 +68,119 @@ impl Measure {
         }
     }
 
-    /// Times a call, or two that undo each other; the time is that of one.
-    fn calls(
-        &self,
-        calls: f64,
-        name: &'static str,
-        filled: Filled,
-        port: impl FnMut(&mut Port, u64),
-        rust: impl FnMut(&mut Board, u64),
-    ) -> Line {
-        self.case(name, calls).both(filled.boards, port, rust)
-    }
-
     fn is_sound(&self) -> Line {
         let port = self.full().boards.port;
-        let case = self.case("is_sound", 1.0);
-        case.alone(port, |port| assert!(port.is_sound()))
+        self.case("is_sound", 1.0).question(port)
     }
 
+    /// An opening doesn't ask question 1.
     fn open(&self) -> Line {
-        let port = self.full().boards.port;
-        let case = self.case("open", 1.0);
-        case.alone(port, |port| accepted(port.open(PERIOD, MEMORY)))
+        let case = Case {
+            questions: 0.0,
+            ..self.case("open", 1.0)
+        };
+        case.turns(self.full().boards, turn!(|_| open(PERIOD, MEMORY)))
     }
 
     fn create_and_remove(&self) -> Line {
-        let boards = self.with_a_place();
-        let payer = boards.newest;
-        self.calls(
-            2.0,
-            "create, remove",
-            boards,
-            |port, _| {
-                accepted(port.create(NOTIFICATION, payer, true));
-                accepted(port.remove(port.out[0]));
-            },
-            |rust, _| {
-                let id = id(rust.create(NOTIFICATION, payer, true));
-                rust.remove(id).expect("accepted");
-            },
+        let filled = (self.filled)(1);
+        let (payer, next) = (filled.newest, filled.next_id());
+        self.case("create, remove", 2.0).turns(
+            filled.boards,
+            turn!(
+                |turn| create(NOTIFICATION, payer, true),
+                remove(next + turn)
+            ),
         )
     }
 
     fn remove_oldest_and_create(&self) -> Line {
-        let boards = self.full();
-        let mut on_port = boards.plain.clone();
-        let mut on_rust = boards.plain.clone();
-        self.calls(
-            2.0,
-            "remove the oldest, create",
-            boards,
-            |port, _| {
-                let (oldest, payer) = on_port.pop_front().expect("an object");
-                accepted(port.remove(oldest));
-                accepted(port.create(NOTIFICATION, payer, true));
-                on_port.push_back((port.out[0], payer));
-            },
-            |rust, _| {
-                let (oldest, payer) = on_rust.pop_front().expect("an object");
-                rust.remove(oldest).expect("accepted");
-                let id = id(rust.create(NOTIFICATION, payer, true));
-                on_rust.push_back((id, payer));
-            },
+        let filled = self.full();
+        let next = filled.next_id();
+        let plain = &filled.plain[..];
+        let count = plain.len() as u64;
+        let payer = |turn: u64| plain[(turn % count) as usize].1;
+        let oldest = |turn: u64| match turn.checked_sub(count) {
+            Some(created) => next + created,
+            None => plain[turn as usize].0,
+        };
+        self.case("remove the oldest, create", 2.0).turns(
+            filled.boards,
+            turn!(
+                |turn| remove(oldest(turn)),
+                create(NOTIFICATION, payer(turn), true)
+            ),
         )
     }
 
     fn insert_and_remove(&self) -> Line {
-        let boards = self.with_a_place();
-        let payer = boards.newest;
-        self.calls(
-            2.0,
-            "insert, remove",
-            boards,
-            |port, _| {
-                accepted(port.insert(NOTIFICATION, payer, 100));
-                accepted(port.remove(port.out[0]));
-            },
-            |rust, _| {
-                let id = id(rust.insert(NOTIFICATION, payer, 100));
-                rust.remove(id).expect("accepted");
-            },
+        let filled = (self.filled)(1);
+        let (payer, next) = (filled.newest, filled.next_id());
+        self.case("insert, remove", 2.0).turns(
+            filled.boards,
+            turn!(|turn| insert(NOTIFICATION, payer, 100), remove(next + turn)),
         )
     }
 
     /// At a time at which the parent renews: only so is there always CPU time left.
     fn create_budget_and_remove(&self) -> Line {
-        let boards = self.with_a_place();
-        let parent = boards.newest;
-        self.calls(
-            2.0,
-            "create_budget, remove",
-            boards,
-            |port, turn| {
-                accepted(port.create_budget(parent, 1, 64, time(turn)));
-                accepted(port.remove(port.out[0]));
-            },
-            |rust, turn| {
-                let id = id(rust.create_budget(parent, 1, 64, time(turn)));
-                rust.remove(id).expect("accepted");
-            },
+        let filled = (self.filled)(1);
+        let (parent, next) = (filled.newest, filled.next_id());
+        self.case("create_budget, remove", 2.0).turns(
+            filled.boards,
+            turn!(|turn| carve(parent, 1, 64, time(turn)), remove(next + turn)),
         )
     }
 
     fn charge_more_and_uncharge(&self) -> Line {
-        let boards = self.full();
-        let object = boards.plain[boards.plain.len() / 2].0;
-        self.calls(
-            2.0,
-            "charge_more, uncharge",
-            boards,
-            |port, _| {
-                accepted(port.charge_more(object, 100));
-                accepted(port.uncharge(object, 100));
-            },
-            |rust, _| {
-                rust.charge_more(object, 100).expect("accepted");
-                rust.uncharge(object, 100).expect("accepted");
-            },
+        let filled = self.full();
+        let (id, _) = filled.middle();
+        self.case("charge_more, uncharge", 2.0).turns(
+            filled.boards,
+            turn!(|_| charge_more(id, 100), uncharge(id, 100)),
         )
     }
 
     fn refill(&self) -> Line {
-        let boards = self.full();
-        let budget = boards.newest;
-        self.calls(
-            1.0,
-            "refill",
-            boards,
-            |port, turn| accepted(port.refill(budget, time(turn))),
-            |rust, turn| {
-                black_box(rust.refill(budget, time(turn)).expect("accepted"));
-            },
-        )
+        let filled = self.full();
+        let id = filled.newest;
+        let turn = turn!(|turn| refill(id, time(turn)));
+        self.case("refill", 1.0).turns(filled.boards, turn)
     }
 
     fn charge_cpu(&self) -> Line {
-        let boards = self.full();
-        let budget = boards.newest;
-        self.calls(
-            1.0,
-            "charge_cpu",
-            boards,
-            |port, turn| accepted(port.charge_cpu(budget, 1, time(turn))),
-            |rust, turn| {
-                black_box(rust.charge_cpu(budget, 1, time(turn)).expect("accepted"));
-            },
-        )
+        let filled = self.full();
+        let id = filled.newest;
+        let turn = turn!(|turn| spend(id, 1, time(turn)));
+        self.case("charge_cpu", 1.0).turns(filled.boards, turn)
     }
 
     fn pays_for_something(&self) -> Line {
-        let boards = self.full();
-        let budget = boards.plain[boards.plain.len() / 2].1;
-        self.reading_pays("pays_for_anything: yes", boards, budget)
+        let filled = self.full();
+        let (_, id) = filled.middle();
+        let case = self.case("pays_for_anything: yes", 1.0);
+        case.turns(filled.boards, turn!(|_| pays(id)))
     }
 
     fn pays_for_nothing(&self) -> Line {
-        let boards = self.full();
-        let object = boards.plain[boards.plain.len() / 2].0;
-        self.reading_pays("pays_for_anything: no", boards, object)
-    }
-
-    fn reading_pays(&self, name: &'static str, boards: Filled, id: u64) -> Line {
-        self.calls(
-            1.0,
-            name,
-            boards,
-            |port, _| accepted(port.pays_for_anything(id)),
-            |rust, _| {
-                black_box(rust.pays_for_anything(id).expect("accepted"));
-            },
-        )
+        let filled = self.full();
+        let (id, _) = filled.middle();
+        let case = self.case("pays_for_anything: no", 1.0);
+        case.turns(filled.boards, turn!(|_| pays(id)))
     }
 
     fn account(&self) -> Line {
-        let boards = self.full();
-        let budget = boards.newest;
-        self.calls(
-            1.0,
-            "account",
-            boards,
-            |port, _| accepted(port.account(budget)),
-            |rust, _| {
-                black_box(rust.account(budget).expect("accepted"));
-            },
-        )
+        let filled = self.full();
+        let id = filled.newest;
+        let case = self.case("account", 1.0);
+        case.turns(filled.boards, turn!(|_| account(id)))
     }
 
     fn charge_of(&self) -> Line {
-        let boards = self.full();
-        let object = boards.plain[boards.plain.len() / 2].0;
-        self.calls(
-            1.0,
-            "charge_of",
-            boards,
-            |port, _| accepted(port.charge_of(object)),
-            |rust, _| {
-                black_box(rust.charge_of(object).expect("accepted"));
-            },
-        )
-    }
-}
-
-/// The id that a creation on the Rust answers.
-fn id(answer: Result<Value, u8>) -> u64 {
-    match answer {
-        Ok(Value::Id(id)) => id,
-        other => panic!("a creation answers {other:?}"),
+        let filled = self.full();
+        let (id, _) = filled.middle();
+        let case = self.case("charge_of", 1.0);
+        case.turns(filled.boards, turn!(|_| charge_of(id)))
     }
 }
 

@@ -1,11 +1,12 @@
-//! Ticks and plannings, and the other calls on threads.
+//! Ticks and plannings.
 
 use super::boards::{Boards, MEMORY, thread_id};
-use super::{Case, Ids, Line, accepted};
-use carv_compare::board::SLEEP;
-use carv_compare::board::make::{block, carve, kill, new_thread, plan, start};
+use super::case::{Case, turn};
+use super::{Ids, Line};
+use carv_compare::board::make::{block, carve, kill, new_thread, plan, start, tick};
+use carv_compare::board::rust::on_rust;
+use carv_compare::board::{IDLE, SLEEP};
 use carv_oracle::account::PERIOD;
-use std::hint::black_box;
 
 /// What the threads of a board are about, each of which has a budget of its own. Thread 0 is gone.
 #[derive(Clone, Copy, Debug, PartialEq, Eq)]
@@ -15,15 +16,46 @@ enum Threads {
     /// All ready, and only the last one's budget ever has time: a planning tests all of them.
     OneLeft,
     /// All but one asleep, for longer than anyone waits.
+    OneAwake,
+    /// All asleep: idle runs.
     Asleep,
 }
 
 impl Threads {
-    const fn name(self) -> &'static str {
+    const ALL: [Self; 4] = [Self::Filled, Self::OneLeft, Self::OneAwake, Self::Asleep];
+
+    /// The names of the rows: a tick with the planning behind it, a tick, a planning.
+    const fn names(self) -> [&'static str; 3] {
         match self {
-            Self::Filled => "tick, plan: all budgets filled",
-            Self::OneLeft => "tick, plan: one budget left",
-            Self::Asleep => "tick, plan: all but one asleep",
+            Self::Filled => [
+                "tick, plan: all budgets filled",
+                "tick: all budgets filled",
+                "plan: all budgets filled",
+            ],
+            Self::OneLeft => [
+                "tick, plan: one budget left",
+                "tick: one budget left",
+                "plan: one budget left",
+            ],
+            Self::OneAwake => [
+                "tick, plan: all but one asleep",
+                "tick: all but one asleep",
+                "plan: all but one asleep",
+            ],
+            Self::Asleep => [
+                "tick, plan: all asleep",
+                "tick: all asleep",
+                "plan: all asleep",
+            ],
+        }
+    }
+
+    /// How many sleep.
+    const fn sleepers(self, threads: u64) -> u64 {
+        match self {
+            Self::Filled | Self::OneLeft => 0,
+            Self::OneAwake => threads - 1,
+            Self::Asleep => threads,
         }
     }
 
@@ -33,8 +65,8 @@ impl Threads {
             Self::Filled => PERIOD / threads,
             Self::OneLeft if from_last == 0 => PERIOD,
             Self::OneLeft => 0,
-            Self::Asleep if from_last == 0 => PERIOD - threads,
-            Self::Asleep => 1,
+            Self::OneAwake | Self::Asleep if from_last == 0 => PERIOD - threads,
+            Self::OneAwake | Self::Asleep => 1,
         }
     }
 
@@ -51,29 +83,32 @@ impl Threads {
             boards.make(start(id));
         }
         boards.make(plan(0));
-        if self == Self::Asleep {
-            for _ in 1..threads {
-                boards.make(block(SLEEP, u64::MAX));
-                boards.make(plan(0));
-            }
+        for _ in 0..self.sleepers(threads) {
+            boards.make(block(SLEEP, u64::MAX));
+            boards.make(plan(0));
         }
+        let idle = boards.make(carv_compare::board::make::CURRENT) == IDLE;
+        assert_eq!(idle, self == Self::Asleep, "{self:?}");
         boards
     }
 }
 
-/// Times a tick and a planning behind it, and the readings of a thread. `told` gets each line as
-/// soon as it is measured.
-pub fn threads(mut told: impl FnMut(&Line)) {
+/// Times ticks and plannings, one tick later at each turn. `told` gets each line as soon as it is
+/// measured.
+pub fn threads(mut told: impl FnMut(Line)) {
     for threads in [16, 127] {
-        for kind in [Threads::Filled, Threads::OneLeft, Threads::Asleep] {
+        for kind in Threads::ALL {
             for ids in [Ids::Dense, Ids::Far] {
-                told(&tick_and_plan(kind, threads, ids));
+                told(tick_and_plan(kind, threads, ids));
             }
         }
     }
-    for ids in [Ids::Dense, Ids::Far] {
-        told(&create_and_kill(ids));
-        told(&read(ids));
+    for kind in Threads::ALL {
+        let [_, tick_alone, plan_alone] = kind.names();
+        let boards = || kind.board(127, Ids::Dense);
+        let case = |name| case(127, Ids::Dense, name);
+        told(case(tick_alone).turns(boards(), turn!(|turn| tick(turn))));
+        told(case(plan_alone).turns(boards(), turn!(|turn| plan(turn))));
     }
 }
 
@@ -87,55 +122,15 @@ fn case(threads: u64, ids: Ids, name: &'static str) -> Case {
     }
 }
 
-/// One tick later at each turn.
+/// The time is that of both.
 fn tick_and_plan(kind: Threads, threads: u64, ids: Ids) -> Line {
+    let [both, ..] = kind.names();
     let case = Case {
         questions: 2.0,
-        ..case(threads, ids, kind.name())
+        ..case(threads, ids, both)
     };
-    case.both(
+    case.turns(
         kind.board(threads, ids),
-        |port, turn| {
-            accepted(port.tick(turn));
-            accepted(port.plan(turn));
-        },
-        |rust, turn| {
-            black_box(rust.tick(turn).expect("accepted"));
-            black_box(rust.plan(turn).expect("accepted"));
-        },
-    )
-}
-
-/// A thread in the middle of the table comes and goes.
-fn create_and_kill(ids: Ids) -> Line {
-    let case = Case {
-        parts: 2.0,
-        questions: 2.0,
-        ..case(126, ids, "create_user_thread, kill")
-    };
-    let mut boards = Threads::Filled.board(127, ids);
-    let id = thread_id(63, ids);
-    boards.make(kill(id, 1));
-    case.both(
-        boards,
-        |port, _| {
-            accepted(port.create_user_thread(id, 1, true));
-            accepted(port.kill(id, 1));
-        },
-        |rust, _| {
-            rust.create_user_thread(id, 1, true).expect("accepted");
-            black_box(rust.kill(id, 1).expect("accepted"));
-        },
-    )
-}
-
-fn read(ids: Ids) -> Line {
-    let id = thread_id(63, ids);
-    case(127, ids, "thread").both(
-        Threads::Filled.board(127, ids),
-        |port, _| accepted(port.thread(id)),
-        |rust, _| {
-            black_box(rust.thread(id).expect("accepted"));
-        },
+        turn!(|turn| tick(turn), plan(turn)),
     )
 }

@@ -1,8 +1,9 @@
 //! Compares the port's board with the Rust's.
 
 use carv_board_host::tally::Tally;
-use carv_board_host::{damaged, runs, short};
-use carv_compare::command::{numbers, program};
+use carv_board_host::{damaged, runs, short, soak};
+use carv_compare::command::{self, Done, numbers};
+use std::io;
 use std::process::ExitCode;
 
 const HELP: &str = "\
@@ -12,6 +13,7 @@ the answer words, the register image and every byte of the state.
 usage: board random COUNT SEED
        board short DEPTH
        board damaged COUNT SEED
+       board soak [OPTIONS]
        board --help
 
 random   makes COUNT random calls, on one board after the other
@@ -19,6 +21,8 @@ short    makes every list of up to DEPTH calls out of 20 on the registry, and ou
          threads, each on a new board
 damaged  damages COUNT areas and makes every kind of call on each: one that isn't sound
          must be refused with 1, without any change
+soak     random calls and damaged areas by turns, for a time or a count, with a report:
+         see board soak --help
 
 COUNT and SEED are numbers below 2^64; a seed fixes the calls. DEPTH is at most 8.
 Exit status: 0 if nothing differs, 1 if something does, 2 if called wrongly.
@@ -28,15 +32,28 @@ Exit status: 0 if nothing differs, 1 if something does, 2 if called wrongly.
 const DEEPEST: usize = 8;
 
 fn main() -> ExitCode {
-    program("board", HELP, |arguments| {
-        let done = match arguments {
-            ["random", count, seed] => random(numbers(count, seed)?),
-            ["short", depth] => all_short(depth_of(depth)?),
-            ["damaged", count, seed] => damage(numbers(count, seed)?),
-            _ => return Err("expected `random`, `short` or `damaged` with their numbers".into()),
-        };
-        Ok(done.map(|report| println!("{report}")))
-    })
+    let arguments: Vec<String> = std::env::args().skip(1).collect();
+    let arguments: Vec<&str> = arguments.iter().map(String::as_str).collect();
+    if let ["soak", options @ ..] = &arguments[..] {
+        let help = soak::command::help();
+        return command::run("board soak", &help, options, |options| {
+            soak::command::run(options, &mut io::stdout())
+        });
+    }
+    command::run("board", HELP, &arguments, compare)
+}
+
+fn compare(arguments: &[&str]) -> Done {
+    let done = match arguments {
+        ["random", count, seed] => random(numbers(count, seed)?),
+        ["short", depth] => all_short(depth_of(depth)?),
+        ["damaged", count, seed] => damage(numbers(count, seed)?),
+        _ => {
+            let expected = "expected `random`, `short` or `damaged` with their numbers, or `soak`";
+            return Err(expected.to_string());
+        }
+    };
+    Ok(done.map(|report| println!("{report}")))
 }
 
 fn random((count, seed): (u64, u64)) -> Result<String, String> {

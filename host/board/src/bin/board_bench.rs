@@ -1,50 +1,55 @@
 //! Times the port's board beside the Rust's and prints tables in Markdown.
 
-use carv_board_host::bench::{HEAD, Line, question, registry, threads};
+use carv_board_host::bench::glance::{Glance, is_shown};
+use carv_board_host::bench::{HEAD, Line, about, calls, question, registry, threads};
+use carv_compare::command::program;
 use std::process::ExitCode;
 
 const HELP: &str = "\
-Times calls of the port's board beside the Rust's, in nanoseconds, and prints tables in Markdown.
+Times calls of the port's board beside the Rust's, in nanoseconds, and prints tables in Markdown:
+first what is measured and how, then the tables, then the ratios at a glance.
 
 usage: board_bench [PART...] [OBJECTS...]
        board_bench --help
 
-threads   a tick with the planning behind it, on 16 and 127 threads, and other calls on threads
-question  question 1 on a full board
+calls     each call on a full board: 512 objects, and 128 threads on the root budget
+threads   a tick with the planning behind it, on 16 and on 127 threads, each with a budget of its
+          own: all budgets filled, one left that has time, all threads but one asleep, all
+          asleep; ids dense and far apart. For 127 threads also tick and planning alone
+question  question 1 on a full board: ids dense, with gaps, and against the search
 registry  each call on the registry, on boards of OBJECTS objects, numbers from 16 to 512;
           without a number 33, 255 and 512
 
-Without a PART all three are timed. Every call of the port first asks question 1 of the whole
-state, which the Rust doesn't: the tables have the time with that and less what is_sound takes
-alone; a tick and a planning ask it twice. Calls that undo each other are timed in pairs, and the
-time is half that of the pair; the time of a tick and a planning is that of both. Each time is the
-median of 101 short rounds. A time less question 1 that is below 1 % of the whole, or negative, is
-noise.
+Without a PART all four are timed, in about half a minute. For instance `board_bench calls` times
+each call once, `board_bench registry 100` the registry's calls on 100 objects.
+
+How to read it: every call of the port but open and image first asks question 1 of the whole
+state, which the Rust doesn't. `port` is the time with that, `less question 1` the time without
+what is_sound takes alone on the same board. A ratio is the port's time over the Rust's: below 1
+the port is faster. A time less question 1 is a difference of two long ones: on a busy machine it
+moved by up to 5 % of the whole time from run to run in nine rows of ten. The last table says only
+what that allows; for more, compare several runs.
+
+How it measures: each time is a median of many short rounds, the port's and the Rust's by turns.
+Calls that undo each other are timed in pairs, and the time is half that of the pair. `tick, plan`
+and `block_current, wake, plan` have the time of all their calls. create_user_thread, start, wake
+and kill are timed alone, 32 at a time, and undone in between. Run it on a machine that does
+nothing else: the ratios stand that better than the times.
 
 Exit status: 0 if all went well, 2 if called wrongly.
 ";
 
-const PARTS: [&str; 3] = ["threads", "question", "registry"];
+const PARTS: [&str; 4] = ["calls", "threads", "question", "registry"];
 const SIZES: [usize; 3] = [33, 255, 512];
 
 fn main() -> ExitCode {
-    let arguments: Vec<String> = std::env::args().skip(1).collect();
-    let arguments: Vec<&str> = arguments.iter().map(String::as_str).collect();
-    if let ["--help" | "-h"] = arguments[..] {
-        print!("{HELP}");
-        return ExitCode::SUCCESS;
-    }
-    let (parts, sizes): (Vec<&str>, Vec<&str>) =
-        arguments.iter().partition(|text| PARTS.contains(text));
-    let sizes: Result<Vec<usize>, String> = sizes.into_iter().map(size).collect();
-    match sizes {
-        Ok(sizes) => tables(&or_all(parts, &PARTS), &or_all(sizes, &SIZES)),
-        Err(why) => {
-            eprintln!("board_bench: {why}; see board_bench --help");
-            return ExitCode::from(2);
-        }
-    }
-    ExitCode::SUCCESS
+    program("board_bench", HELP, |arguments| {
+        let (parts, sizes): (Vec<&str>, Vec<&str>) =
+            arguments.iter().partition(|text| PARTS.contains(text));
+        let sizes: Result<Vec<usize>, String> = sizes.into_iter().map(size).collect();
+        tables(&or_all(parts, &PARTS), &or_all(sizes?, &SIZES));
+        Ok(Ok(()))
+    })
 }
 
 fn size(text: &str) -> Result<usize, String> {
@@ -62,14 +67,23 @@ fn or_all<T: Copy>(chosen: Vec<T>, all: &[T]) -> Vec<T> {
 }
 
 fn tables(parts: &[&str], sizes: &[usize]) {
+    println!("{}\n", about::about());
+    let mut lines = Vec::new();
+    let mut told = |line: Line| {
+        println!("{line}");
+        lines.push(line);
+    };
     for part in parts {
         println!("{HEAD}");
-        let told = |line: &Line| println!("{line}");
         match *part {
-            "threads" => threads(told),
-            "question" => question(told),
-            _ => registry(sizes, told),
+            "calls" => calls(&mut told),
+            "threads" => threads(&mut told),
+            "question" => question(&mut told),
+            _ => registry(sizes, &mut told),
         }
         println!();
+    }
+    if lines.iter().any(is_shown) {
+        print!("{}", Glance(&lines));
     }
 }

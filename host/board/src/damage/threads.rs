@@ -1,11 +1,10 @@
 //! Damage to threads, ready queue and exit log.
 
 use super::Victim;
-use crate::area::{CURRENT, EXITS, QUEUE, SWITCHES, THREADS, ThreadField as T, ThreadRow};
+use crate::area::{CURRENT, EXITS, Exit, QUEUE, SWITCHES, THREADS, ThreadField as T, ThreadRow};
 use carv_compare::board::IDLE;
 use carv_compare::board::state::{BLOCKED, DEAD, INACTIVE, READY, RUNNING};
 use carv_compare::draw::Draw;
-use carv_oracle::Exit;
 
 impl Victim {
     fn any_thread(&self, draw: &mut Draw) -> usize {

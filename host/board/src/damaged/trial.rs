@@ -1,9 +1,9 @@
 //! Calls on an area that may be damaged.
 
 use crate::area;
-use crate::calls::on_port;
 use crate::pair::{UNTOUCHED, UNTOUCHED_IMAGE};
 use crate::port::Port;
+use crate::snapshot;
 use carv_compare::board::call::Call;
 use carv_compare::board::reference::{Reference, UNSOUND};
 
@@ -49,7 +49,7 @@ impl Trial {
 
     fn call(&mut self, call: Call) -> u64 {
         self.calls += 1;
-        on_port(call, &mut self.port)
+        self.port.make(call)
     }
 
     /// Whether the call is refused with this number and leaves all that it is lent.
@@ -105,7 +105,7 @@ impl Trial {
         let mut reference = Reference::default();
         let answer = reference.call(call);
         let mut expected = vec![0; area::BYTES];
-        area::write_snapshot(reference.state(), &mut expected);
+        snapshot::write(reference.state(), &mut expected);
         let number = self.call(call);
         let as_expected = self.port.area == expected && self.port.out == self.lent.out;
         self.reset();

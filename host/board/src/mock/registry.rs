@@ -1,10 +1,9 @@
 //! The model's registry.
 
 use super::{Done, Mistake, Model, ask, planted};
-use crate::area::ObjectRow;
+use crate::area::{Account, ObjectRow};
 use carv_compare::board::{BUDGET, OBJECTS};
-use carv_compare::state::free;
-use carv_oracle::account::{Account, PERIOD};
+use carv_oracle::account::PERIOD;
 
 impl Model {
     pub(super) fn object(&mut self, id: u64) -> Result<&mut ObjectRow, u64> {
@@ -65,10 +64,10 @@ impl Model {
     pub(super) fn create_budget(&mut self, parent: u64, cpu: u64, memory: u64, time: u64) -> Done {
         self.ask_place()?;
         let account = self.budget(parent)?;
-        ask(12, 128 <= free(account))?;
+        ask(12, 128 <= account.memory_free())?;
         let before = *account;
         renew(account, time);
-        let covered = cpu <= account.cpu_left && memory <= free(account) - 128;
+        let covered = cpu <= account.cpu_left && memory <= account.memory_free() - 128;
         if !covered && planted(Mistake::RefusedCarveForgetsRenewal) {
             *account = before;
         }
@@ -157,7 +156,7 @@ impl Model {
 }
 
 fn covers(account: &Account, bytes: u64) -> bool {
-    bytes <= free(account) && !planted(Mistake::EveryChargeRefused)
+    bytes <= account.memory_free() && !planted(Mistake::EveryChargeRefused)
 }
 
 pub(super) fn renew(account: &mut Account, time: u64) -> bool {

@@ -1,10 +1,10 @@
 //! The model's question 1.
 
 use super::{Mistake, planted};
-use crate::area::{self, ObjectRow, PARTS, Table, ThreadRow};
+use crate::area::{self, Account, ObjectRow, PARTS, Table, ThreadRow};
 use carv_compare::board::state::{BLOCKED, DEAD, INACTIVE, READY, RUNNING};
 use carv_compare::board::{BUDGET, IDLE};
-use carv_oracle::account::{Account, PERIOD};
+use carv_oracle::account::PERIOD;
 
 pub(super) fn is_sound(area: &[u8]) -> bool {
     let Some(table) = area::read(area) else {

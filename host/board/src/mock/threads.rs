@@ -2,33 +2,29 @@
 
 use super::registry::renew;
 use super::{Done, Mistake, Model, ask, planted};
-use crate::area::{ObjectRow, Table, ThreadRow};
+use crate::area::{Account, Exit, ObjectRow, Table, ThreadRow};
 use carv_compare::board::state::{BLOCKED, DEAD, INACTIVE, READY, RUNNING};
 use carv_compare::board::{BUDGET, EXITS, IDLE, LAST_TICK, SLEEP, THREADS, TICK};
-use carv_oracle::Exit;
-use carv_oracle::account::Account;
 
-impl Table {
-    /// A board as it is opened.
-    pub(super) fn opening(cpu: u64, memory: u64) -> Self {
-        let root = ObjectRow {
-            id: 1,
-            kind: BUDGET,
-            payer: 1,
-            charge: 0,
-            account: Account {
-                cpu_allowance: cpu,
-                memory_limit: memory,
-                cpu_left: cpu,
-                ..Account::default()
-            },
-        };
-        Self {
-            next_id: 2,
-            objects: vec![root],
-            threads: vec![fresh(0, RUNNING), fresh(IDLE, READY)],
-            ..Self::default()
-        }
+/// A board as it is opened.
+pub(super) fn opening(cpu: u64, memory: u64) -> Table {
+    let root = ObjectRow {
+        id: 1,
+        kind: BUDGET,
+        payer: 1,
+        charge: 0,
+        account: Account {
+            cpu_allowance: cpu,
+            memory_limit: memory,
+            cpu_left: cpu,
+            ..Account::default()
+        },
+    };
+    Table {
+        next_id: 2,
+        objects: vec![root],
+        threads: vec![fresh(0, RUNNING), fresh(IDLE, READY)],
+        ..Table::default()
     }
 }
 

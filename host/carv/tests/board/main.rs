@@ -1,6 +1,7 @@
 //! The wrapper over the port's library: each method accepted and refused, each refusal, and the
 //! declarations against `include/carv.h`.
 
+mod codes;
 mod header;
 mod objects;
 mod refusals;

@@ -1,26 +1,15 @@
 //! Writes random calls on a registry with the answers that are expected.
 
-use carv_compare::command::{program, write_command};
+use carv_compare::command::record_program;
 use carv_compare::objects::Records;
 use std::process::ExitCode;
 
-const HELP: &str = "\
+const ABOUT: &str = "\
 Random calls on one registry, each with the answer that the Rust gives or, where the
-port refuses beyond the Rust, with document 01's number.
-
-usage: objects_record write COUNT SEED
-       objects_record --help
-
-write  writes COUNT records of 16 little-endian 64-bit words to standard output
-
-COUNT and SEED are numbers below 2^64; a seed fixes the records.
-Exit status: 0 if all went well, 1 if not, 2 if called wrongly.
-";
+port refuses beyond the Rust, with document 01's number.";
 
 fn main() -> ExitCode {
-    program("objects_record", HELP, |arguments| {
-        write_command(arguments, |seed| {
-            Records::new(seed).map(|record| record.bytes())
-        })
+    record_program("objects_record", ABOUT, |seed| {
+        Records::new(seed).map(|record| record.bytes())
     })
 }

@@ -154,6 +154,7 @@ fn about_thread(id: u64, state: &Snapshot) -> Vec<Call> {
 
 #[cfg(test)]
 mod tests {
+    use super::super::numbers;
     use super::*;
     use std::collections::BTreeMap;
 
@@ -216,43 +217,15 @@ mod tests {
 
     #[test]
     fn every_answer_occurs() {
-        let answers: [(Op, &[u64]); 24] = [
-            (Op::Open, &[0, 2]),
-            (Op::Create, &[0, 4, 6, 7, 12, 13, 14]),
-            (Op::Insert, &[0, 4, 6, 7, 12]),
-            (Op::CreateBudget, &[0, 6, 7, 12]),
-            (Op::ChargeMore, &[0, 7, 12]),
-            (Op::Uncharge, &[0, 7, 11]),
-            (Op::Remove, &[0, 7, 9, 10]),
-            (Op::Refill, &[0, 7]),
-            (Op::ChargeCpu, &[0, 7, 12]),
-            (Op::PaysForAnything, &[0]),
-            (Op::Account, &[0, 7]),
-            (Op::ChargeOf, &[0, 7]),
-            (Op::CreateUserThread, &[0, 5, 6, 14]),
-            (Op::Start, &[0, 7, 8]),
-            (Op::BlockCurrent, &[0, 4, 8]),
-            (Op::Wake, &[0, 7, 8]),
-            (Op::IsBlockedOn, &[0, 4]),
-            (Op::Kill, &[0, 4, 5, 7]),
-            (Op::Tick, &[0, 3]),
-            (Op::Plan, &[0, 3]),
-            (Op::Thread, &[0, 7]),
-            (Op::Current, &[0]),
-            (Op::Switches, &[0]),
-            (Op::ExitOf, &[0]),
-        ];
         let mut found: BTreeMap<(Op, u64), u64> = BTreeMap::new();
         // Before the first opening, 1 too.
         for record in records().skip(edges().len()) {
             let key = (record.call.op(), record.answer.number);
             *found.entry(key).or_default() += 1;
         }
-        for (op, numbers) in answers {
-            for number in numbers {
-                let count = found.remove(&(op, *number)).unwrap_or(0);
-                assert!(count > 4, "{op:?} with {number}: {count}");
-            }
+        for (op, number) in numbers::all() {
+            let count = found.remove(&(op, number)).unwrap_or(0);
+            assert!(count > 4, "{op:?} with {number}: {count}");
         }
         assert!(found.is_empty(), "{found:?}");
     }

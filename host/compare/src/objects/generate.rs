@@ -1,8 +1,10 @@
 //! Makes up calls on a registry, edges more often than chance gives them.
 
-use super::{Op, PLACES, Record, Registry};
+use super::{Record, Registry};
+use crate::board::OBJECTS;
+use crate::board::call::Op;
 use crate::draw::Draw;
-use crate::state::{account_of, entry, free, is_budget, renewed};
+use crate::state::{account_of, entry, is_budget, renewed};
 use carv_oracle::Snapshot;
 use carv_oracle::account::{Account, PERIOD};
 
@@ -153,7 +155,7 @@ impl Records {
             let cpu = self.draw.number().max(PERIOD + 1);
             return (Op::Open, [cpu, self.draw.number(), 0, 0]);
         }
-        if self.fills && self.objects() == PLACES && self.draw.random.one_in(16) {
+        if self.fills && self.objects() == OBJECTS && self.draw.random.one_in(16) {
             self.fills = false;
         }
         let call = self.change();
@@ -223,7 +225,7 @@ impl Records {
 
     fn insert(&mut self) -> (Op, [u64; 4]) {
         let payer = self.budget();
-        let bytes = self.bytes(free(&self.account(payer)));
+        let bytes = self.bytes(self.account(payer).memory_free());
         (Op::Insert, [self.kind(), payer, bytes, 0])
     }
 
@@ -232,7 +234,7 @@ impl Records {
         let account = self.account(parent);
         let time = self.time(account.period_start);
         let left = renewed(account, time).cpu_left;
-        let free = free(&account).saturating_sub(128);
+        let free = account.memory_free().saturating_sub(128);
         let (cpu, memory) = if self.draw.random.one_in(3) {
             (self.draw.amount(left), self.draw.amount(free))
         } else {
@@ -244,7 +246,7 @@ impl Records {
     fn charge_more(&mut self) -> (Op, [u64; 4]) {
         let id = self.object();
         let payer = entry(self.registry.state(), id).map_or(0, |entry| entry.payer);
-        let bytes = self.bytes(free(&self.account(payer)));
+        let bytes = self.bytes(self.account(payer).memory_free());
         (Op::ChargeMore, [id, bytes, 0, 0])
     }
 
@@ -360,6 +362,7 @@ impl Records {
 #[cfg(test)]
 mod tests {
     use super::*;
+    use crate::board::numbers;
 
     const COUNT: usize = 100_000;
 
@@ -404,27 +407,13 @@ mod tests {
 
     #[test]
     fn every_answer_occurs() {
-        let answers: [(Op, &[u64]); 12] = [
-            (Op::Open, &[0, 2]),
-            (Op::Create, &[0, 4, 6, 7, 12, 13, 14]),
-            (Op::Insert, &[0, 4, 6, 7, 12]),
-            (Op::CreateBudget, &[0, 6, 7, 12]),
-            (Op::ChargeMore, &[0, 7, 12]),
-            (Op::Uncharge, &[0, 7, 11]),
-            (Op::Remove, &[0, 7, 9, 10]),
-            (Op::Refill, &[0, 7]),
-            (Op::ChargeCpu, &[0, 7, 12]),
-            (Op::PaysForAnything, &[0]),
-            (Op::Account, &[0, 7]),
-            (Op::ChargeOf, &[0, 7]),
-        ];
         // Before the first opening, 1 too.
         let rest: Vec<Record> = records().skip(EDGES.len()).collect();
-        for (op, numbers) in answers {
-            for number in 0..16 {
+        for op in Op::ALL[..12].iter().copied() {
+            for number in 0..numbers::NUMBERS as u64 {
                 let found = rest.iter().filter(|r| (r.op, r.number) == (op, number));
                 let found = found.count();
-                let expected = numbers.contains(&number);
+                let expected = numbers::of(op).contains(&number);
                 assert_eq!(found > 10, expected, "{op:?} with {number}: {found}");
                 assert!(expected || found == 0, "{op:?} with {number}: {found}");
             }

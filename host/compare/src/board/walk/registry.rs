@@ -2,7 +2,7 @@
 
 use super::{Mood, Walk};
 use crate::board::call::Call;
-use crate::state::{account_of, entry, free, is_budget, renewed};
+use crate::state::{account_of, entry, is_budget, renewed};
 use carv_oracle::Snapshot;
 
 impl Walk {
@@ -19,7 +19,7 @@ impl Walk {
         Call::Insert {
             kind: self.kind(),
             payer,
-            bytes: self.bytes(free(&account_of(state, payer))),
+            bytes: self.bytes(account_of(state, payer).memory_free()),
         }
     }
 
@@ -28,7 +28,7 @@ impl Walk {
         let account = account_of(state, parent);
         let time = self.time(account.period_start);
         let left = renewed(account, time).cpu_left;
-        let free = free(&account).saturating_sub(128);
+        let free = account.memory_free().saturating_sub(128);
         let (cpu, memory) = match self.draw.random.below(4) {
             0 => (self.draw.amount(left), self.draw.amount(free)),
             1 => (self.draw.within(left), self.draw.within(free)),
@@ -48,7 +48,7 @@ impl Walk {
     pub(super) fn charge_more(&mut self, state: &Snapshot) -> Call {
         let id = self.object(state);
         let payer = entry(state, id).map_or(0, |entry| entry.payer);
-        let bytes = self.bytes(free(&account_of(state, payer)));
+        let bytes = self.bytes(account_of(state, payer).memory_free());
         Call::ChargeMore { id, bytes }
     }
 

@@ -1,0 +1,48 @@
+//! `board_bench`: what it prints, and how it ends.
+
+mod common;
+
+use common::{Run, run};
+
+fn bench(arguments: &str) -> Run {
+    run(env!("CARGO_BIN_EXE_board_bench"), arguments)
+}
+
+#[test]
+fn help_is_printed() {
+    let run = bench("--help");
+    assert_eq!(run.status, Some(0));
+    assert!(run.out.contains("board_bench [PART...] [OBJECTS...]"));
+}
+
+#[test]
+fn wrong_arguments_end_with_2() {
+    for argument in ["cals", "15", "513"] {
+        let run = bench(argument);
+        assert_eq!(run.status, Some(2), "{argument}");
+        let said = run.err;
+        assert!(
+            said.contains(&format!("`{argument}` is neither a PART")),
+            "{said}"
+        );
+    }
+}
+
+/// The model is slow.
+#[cfg(not(feature = "mock"))]
+#[test]
+fn every_call_is_timed() {
+    use carv_compare::board::call::Op;
+
+    let run = bench("calls");
+    assert_eq!(run.status, Some(0));
+    let printed = run.out;
+    for part in ["- processor: ", "- built with: rustc ", "libcarv.a, "] {
+        assert!(printed.contains(part), "{part}");
+    }
+    let (_, glance) = printed.split_once("at a glance").expect("the last table");
+    let names = Op::ALL.iter().map(|op| op.name()).chain(["image"]);
+    for name in names {
+        assert!(glance.contains(name), "{name}");
+    }
+}
