@@ -58,6 +58,10 @@ def literal(struct, fields):
     return '%s {\n%s    }' % (struct, ''.join('        %s,\n' % f for f in fields))
 
 
+def argument(term):
+    return '(%s)' % term if ' ' in term else term
+
+
 def entry(name, params, definition, module, reading, comment):
     names = [p.split(':')[0] for p in params]
     call = ' '.join([definition] + names)
@@ -65,7 +69,7 @@ def entry(name, params, definition, module, reading, comment):
     left = 'entry' if reading else 'exit'
     text = '\n// %s\n' % comment
     text += signature('pub fn ' + name, ['area: &[u8]' if reading else 'area: &mut [u8]'] + params, 'Answer')
-    text += '    ensures { λ r. ⌜ Answered (%s) (now (area .entry)) r (now (area .%s)) ⌝ }\n' % (spec, left)
+    text += '    ensures { λ r. ⌜ Answered %s (now (area .entry)) r (now (area .%s)) ⌝ }\n' % (argument(spec), left)
     text += '{\n    if !is_sound(area) {\n        return Answer::Refused(1);\n    }\n'
     inner = '%s::%s(%s)' % (module, name, ', '.join(['area'] + names))
     text += '    let answer = %s;\n    Answer::Registry(answer)\n}\n' % inner if module == REGISTRY else '    %s\n}\n' % inner
@@ -99,7 +103,7 @@ def c_function(name, params, definition, module, reading, comment):
     left = 'entry' if reading else 'exit'
     text = '\n#[no_mangle]\n'
     text += signature('pub extern "C" fn carv_' + name, ['area: &[u8]' if reading else 'area: &mut [u8]'] + numbers + ['out: &mut [u64]'], 'u64')
-    text += '    ensures { λ r. ⌜ Exported (%s) (now (area .entry)) (now (out .entry)) r (now (area .%s)) (now (out .exit)) ⌝ }\n' % (spec, left)
+    text += '    ensures { λ r. ⌜ Exported %s (now (area .entry)) (now (out .entry)) r (now (area .%s)) (now (out .exit)) ⌝ }\n' % (argument(spec), left)
     text += '{\n    if out.len() != WORDS {\n        return 1;\n    }\n' + made
     text += '    let answer = carv_scheduler::%s(%s);\n    report(answer, out)\n}\n' % (name, ', '.join(['area'] + given))
     place = name.replace('_', '-')

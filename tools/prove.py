@@ -3,6 +3,7 @@
 
     tools/prove.py --stubs CRATE_DIR ANSWERS; rt dev CRATE --generated GEN > /dev/null 2>&1
     tools/prove.py CRATE_DIR GEN ANSWERS
+    tools/prove.py --answers CRATE_DIR FUNCTION
 
 The first line writes an empty proof file for each function of ANSWERS that has none: without one `rt dev` would search for minutes.
 GEN has the generated antt, from which the places of a function's code are read. ANSWERS has a block for each function:
@@ -20,7 +21,10 @@ A need without an answer gets that of `*`, by default `search needs`. In a term
     %arg      is the value of the parameter `arg`
     AREA, D   are the bytes of the parameter `a` at entry, and what the crate's `decode` says of them
 
-A term may go on in further lines. A function with a loop asks for an invariant and a measure: write that one by hand, from what
+A term may go on in further lines. The last command prints the answers that the proof file of a function, as `calls/start`, comes
+from: when the function has changed, change these and write the file anew (with its old text gone, so that GEN is made).
+
+A function with a loop asks for an invariant and a measure: write that one by hand, from what
 `rt dev` prints.
 """
 import os
@@ -132,9 +136,39 @@ def stub(block, folder):
         open(path, 'w').write('-- to be written\n')
 
 
+def fold(term):
+    """The reverse of expand."""
+    path = r'\bc(?: \.before)*'
+    term = re.sub(rf'\({path} \.args \.a \.now\)', 'AREA', term).replace('(decode AREA)', 'D')
+    term = re.sub(rf'\({path} \.args \.(\w+)\)', r'%\1', term)
+    term = re.sub(rf'{path} \.(pre|args)\b', r'START .\1', term)
+    return re.sub(rf'{path} \.«?([\w-]+)»?', r'@\1', term)
+
+
+def read_back(folder, function):
+    """The block of answers that a proof file comes from."""
+    text = open(f'{folder}/proofs/{function}/Proof.antt').read()
+    head, _, body = text.partition('    (tie.spec\n')
+    body = re.sub(r'\)\)  -- (\S+)\s*$', r')  -- \1\n', body)
+    needs = re.findall(r'^    \(λ c(?: κs)?\. (.*?)\)  -- (\S+)\n', body, re.M | re.S)
+    if not needs or any('-- ' in term for term, _ in needs):
+        sys.exit(f'{function}: the proof file was written by hand')
+    block = [f'== {function}']
+    for line in head.split('\n'):
+        if re.match('use |unfolding ', line) and not re.search(r'\.\{(statement|needs)\}$| as tie$', line):
+            block.append(line)
+    for term, need in needs:
+        if term != 'search needs':
+            block.append(f'{need} := {fold(term)}'.replace('\n    ', '\n'))
+    return '\n'.join(block)
+
+
 def main():
     if len(sys.argv) != 4:
         sys.exit(__doc__)
+    if sys.argv[1] == '--answers':
+        print(read_back(sys.argv[2], sys.argv[3]))
+        return
     for block in re.split(r'^== ', open(sys.argv[3]).read(), flags=re.M)[1:]:
         if sys.argv[1] == '--stubs':
             stub(block, sys.argv[2])

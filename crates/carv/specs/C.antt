@@ -7,17 +7,15 @@ use lib.Dec.{eqb}
 use lib.ListN.{length, set}
 use lib.Seq.{sets}
 use Rattle.carv_budget.specs.declared.Account.{Account}
-use Rattle.carv_registry.specs.Registry as registry-calls
-use Rattle.carv_registry.specs.Book as objects
 use Rattle.carv_objects.specs.declared.Answer as registry
 use Rattle.carv_objects.specs.declared.Answer.the-variants as registry-answer
 use Rattle.carv_board.specs.declared.Thread.{Thread}
 use Rattle.carv_scheduler.specs.declared.Answer.{Answer}
 use Rattle.carv_scheduler.specs.declared.Answer.the-variants.{Done, Registry, NoSwitch, Switch, SwitchToKernel, Ended, EndedNothing, Blocked, NotBlocked, Record, Figure, Cause, NoCause, Refused}
 use Rattle.carv_scheduler.specs.Answer.{number}
-use Rattle.carv_board.specs.Scheduler as scheduler
-use Rattle.carv_board.specs.Scheduler.{Board, Answers, by-registry}
-use Rattle.carv_board.specs.Book.{Call, on-objects, create-user-thread, start, block-current, wake, is-blocked-on, kill, tick, plan, read-thread, read-current, read-switches, exit-of}
+use Rattle.carv_board.specs.Scheduler.{Board, Answers}
+use Rattle.carv_board.specs.Book.{Call}
+use Rattle.carv_board.specs.Runs.{run}
 use Rattle.carv_scheduler.specs.Area.{Answered, Opened}
 use Rattle.carv_scheduler.specs.Creating.{Created}
 
@@ -84,38 +82,9 @@ Opens cpu memory a = Returns (Opened cpu memory a) a
 
 -- The calls.
 
--- what each call does to a board
-abbrev pub registry-call : objects.Call → Board → Answers
-registry-call (objects.create kind payer backing) = by-registry (registry-calls.create kind payer backing)
-registry-call (objects.insert kind payer bytes) = by-registry (registry-calls.insert kind payer bytes)
-registry-call (objects.create-budget parent cpu memory time) = by-registry (registry-calls.create-budget parent cpu memory time)
-registry-call (objects.charge-more i bytes) = by-registry (registry-calls.charge-more i bytes)
-registry-call (objects.uncharge i bytes) = by-registry (registry-calls.uncharge i bytes)
-registry-call (objects.remove i) = by-registry (registry-calls.remove i)
-registry-call (objects.refill i time) = by-registry (registry-calls.refill i time)
-registry-call (objects.charge-cpu i ns time) = by-registry (registry-calls.charge-cpu i ns time)
-registry-call (objects.pays-for-anything i) = by-registry (registry-calls.pays-for-anything i)
-registry-call (objects.read-account i) = by-registry (registry-calls.read-account i)
-registry-call (objects.charge-of i) = by-registry (registry-calls.charge-of i)
-
-abbrev pub called : Call → Board → Answers
-called (on-objects c) = registry-call c
-called (create-user-thread i budget stack) = scheduler.create-user-thread i budget stack
-called (start i space cspace root context) = scheduler.start i space cspace root context
-called (block-current kind number) = scheduler.block-current kind number
-called (wake i r) = scheduler.wake i r
-called (is-blocked-on i kind number) = scheduler.is-blocked-on i kind number
-called (kill i cause) = scheduler.kill i cause
-called (tick n) = scheduler.tick n
-called (plan n) = scheduler.plan n
-called (read-thread i) = scheduler.read-thread i
-called read-current = scheduler.read-current
-called read-switches = scheduler.read-switches
-called (exit-of i) = scheduler.exit-of i
-
 -- what the C function of a call ensures
 abbrev pub Exported : Call → (a out : List ℕ) (r : ℕ) (a′ out′ : List ℕ) → Type 0
-Exported c = Called (called c)
+Exported c = Called (run c)
 
 -- `carv_create_user_thread`, which is lent a register image m as well: other than 20 answer words are refused with 1, and nothing changes
 pub record CreatesInC (call : Board → Answers) (a m out : List ℕ) (r : ℕ) (a′ m′ out′ : List ℕ) : Type 0 where
@@ -123,4 +92,4 @@ pub record CreatesInC (call : Board → Answers) (a m out : List ℕ) (r : ℕ) 
   pub reports : eqb (length out) 20 ≡ true → Reports (λ x b. Created call a m x b m′) out r a′ out′
 
 abbrev pub ExportedWithImage : Call → (a m out : List ℕ) (r : ℕ) (a′ m′ out′ : List ℕ) → Type 0
-ExportedWithImage c = CreatesInC (called c)
+ExportedWithImage c = CreatesInC (run c)

@@ -1,5 +1,5 @@
 -- The three demands, over areas of bytes and the exported C functions: the file to open first. `Ensures` says of each call what its C
--- function in src/c.rt ensures; a list of calls is run on an area from an accepted opening, each on the area that the last one left. Assumes nothing.
+-- function in src/lib.rt ensures; a list of calls is run on an area from an accepted opening, each on the area that the last one left. Assumes nothing.
 use mathlib.Core.Path.{_≡_, refl, sym, ap, _∙_, subst}
 use mathlib.Core.Bool.{Bool, true, false, cond, _&&_, true≢false}
 use mathlib.Core.List.{List, [], _∷_, _++_, map}
@@ -25,10 +25,10 @@ use Rattle.carv_board.specs.Refines as refines
 use Rattle.carv_scheduler.specs.Area.{decode, sound-area, Is, Answered}
 use Rattle.carv_scheduler.specs.AreaLaws.{area-sound}
 use Rattle.carv_scheduler.specs.Image.{register-image}
-use Rattle.carv.specs.C.{registry-call, called, reported, Exported, ExportedWithImage, Opens}
+use Rattle.carv.specs.C.{reported, Exported, ExportedWithImage, Opens}
 use Rattle.carv_board.specs.Book as book
 use Rattle.carv_board.specs.Book.{Book, Call, on-objects, create-user-thread, start, block-current, wake, is-blocked-on, kill, tick, plan, read-thread, read-current, read-switches, exit-of, write}
-use Rattle.carv_board.specs.History.{run, after, Numbered, numbers, write-all, book-after, Fits, AllFit}
+use Rattle.carv_board.specs.Runs.{run, after, Numbered, numbers, write-all, book-after, Fits, AllFit}
 use Rattle.carv_board.specs.Demand2 as definitions
 use Rattle.carv_board.specs.Demand2.{rust-run, is-added}
 use Rattle.carv_board.specs.Demand3 as definitions-3
@@ -62,7 +62,7 @@ pub record Made : Type 0 where
   pub words′ : List ℕ
   pub image′ : List ℕ
 
--- what the C function of the call ensures, on the area a: the `ensures` of src/c.rt name these two
+-- what the C function of the call ensures, on the area a: the `ensures` of src/lib.rt name these two
 pub data Ensures (a : List ℕ) (e : Made) : Type 0 where
   with-image : has-image (e .call) ≡ true → ExportedWithImage (e .call) a (e .image) (e .words) (e .returned) (e .left) (e .image′) (e .words′) → Ensures a e
   plain : has-image (e .call) ≡ false → Exported (e .call) a (e .words) (e .returned) (e .left) (e .words′) → e .image′ ≡ e .image → Ensures a e
@@ -139,34 +139,6 @@ pub record Demand3 (es : List Made) (a : List ℕ) (cpu memory : ℕ) : Type 0 w
 
 -- Proofs.
 
-registry-run : (c : objects.Call) (b : Board) → registry-call c b ≡ run (on-objects c) b
-registry-run (objects.create kind payer backing) b = refl
-registry-run (objects.insert kind payer bytes) b = refl
-registry-run (objects.create-budget parent cpu memory time) b = refl
-registry-run (objects.charge-more i bytes) b = refl
-registry-run (objects.uncharge i bytes) b = refl
-registry-run (objects.remove i) b = refl
-registry-run (objects.refill i time) b = refl
-registry-run (objects.charge-cpu i ns time) b = refl
-registry-run (objects.pays-for-anything i) b = refl
-registry-run (objects.read-account i) b = refl
-registry-run (objects.charge-of i) b = refl
-
-called-run : (c : Call) (b : Board) → called c b ≡ run c b
-called-run (on-objects c) b = registry-run c b
-called-run (create-user-thread i budget stack) b = refl
-called-run (start i space cspace root context) b = refl
-called-run (block-current kind number) b = refl
-called-run (wake i r) b = refl
-called-run (is-blocked-on i kind number) b = refl
-called-run (kill i cause) b = refl
-called-run (tick n) b = refl
-called-run (plan n) b = refl
-called-run (read-thread i) b = refl
-called-run read-current b = refl
-called-run read-switches b = refl
-called-run (exit-of i) b = refl
-
 -- refusal 1 is an added one, and moves nothing in the book
 one-registry : (c : objects.Call) → is-added (on-objects c) 1 ≡ true
 one-registry (objects.create kind payer backing) = refl
@@ -212,11 +184,11 @@ one-written read-switches k = refl
 one-written (exit-of i) k = refl
 
 -- an answer x of which `Answered` holds
-module _ (a : List ℕ) (e : Made) (x : Answer) (h : Answered (called (e .call)) a x (e .left)) (n : e .returned ≡ number x) (w : e .words′ ≡ reported x (e .words)) where
+module _ (a : List ℕ) (e : Made) (x : Answer) (h : Answered (run (e .call)) a x (e .left)) (n : e .returned ≡ number x) (w : e .words′ ≡ reported x (e .words)) where
   answered-given : sound-area a ≡ true → GivenAs e (run (e .call) (decode a))
   answered-given s =
       let v = h .served s in
-      subst (GivenAs e) (called-run (e .call) (decode a)) (record { answer = x; number = n ∙ v .number; value = v .value; written = w; area = v .area })
+      record { answer = x; number = n ∙ v .number; value = v .value; written = w; area = v .area }
 
   answered-not : sound-area a ≡ false → (e .returned ≡ 1) × (e .left ≡ a) × (e .words′ ≡ e .words)
   answered-not s =

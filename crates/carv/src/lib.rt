@@ -497,7 +497,7 @@ pub extern "C" fn carv_read_thread(area: &[u8], id: u64, out: &mut [u64]) -> u64
 
 #[no_mangle]
 pub extern "C" fn carv_current(area: &[u8], out: &mut [u64]) -> u64
-    ensures { λ r. ⌜ Exported (read-current) (now (area .entry)) (now (out .entry)) r (now (area .entry)) (now (out .exit)) ⌝ }
+    ensures { λ r. ⌜ Exported read-current (now (area .entry)) (now (out .entry)) r (now (area .entry)) (now (out .exit)) ⌝ }
 {
     if out.len() != WORDS {
         return 1;
@@ -508,7 +508,7 @@ pub extern "C" fn carv_current(area: &[u8], out: &mut [u64]) -> u64
 
 #[no_mangle]
 pub extern "C" fn carv_switches(area: &[u8], out: &mut [u64]) -> u64
-    ensures { λ r. ⌜ Exported (read-switches) (now (area .entry)) (now (out .entry)) r (now (area .entry)) (now (out .exit)) ⌝ }
+    ensures { λ r. ⌜ Exported read-switches (now (area .entry)) (now (out .entry)) r (now (area .entry)) (now (out .exit)) ⌝ }
 {
     if out.len() != WORDS {
         return 1;

@@ -16,7 +16,8 @@ use Rattle.carv_board.specs.Kept.{opening-sound}
 use Rattle.carv_board.specs.Book.{Call, on-objects, create-user-thread, start, block-current, wake, is-blocked-on, kill, tick, plan, read-thread, read-current, read-switches, exit-of}
 use Rattle.carv_board.specs.Refines as refines
 use Rattle.carv_board.specs.Refines.{creation-reply-of, said-reply-of, kill-reply-of, plan-reply-of, reading-of, added, added-to-block}
-use Rattle.carv_board.specs.History.{run, kept, AllFit}
+use Rattle.carv_board.specs.Runs.{run, AllFit}
+use Rattle.carv_board.specs.History.{kept}
 
 -- the Rust's method, its result in the port's words
 abbrev pub rust-run : Call → Board → Answers

@@ -26,7 +26,9 @@ use Rattle.carv_board.specs.Reading.{or-true, neither}
 use Rattle.carv_board.specs.Switching.{choose-there, put-back-kept, switched}
 use Rattle.carv_board.specs.Book as book
 use Rattle.carv_board.specs.Book.{Book, Call, plan, put-back}
-use Rattle.carv_board.specs.History.{run, after, book-after, AllFit, Follows, Stands, put-back-book, put-back-follows, switch-follows, after-stands, opening-stands}
+use Rattle.carv_board.specs.Runs.{run, after, book-after, AllFit}
+use Rattle.carv_board.specs.Following.{Follows, put-back-book, put-back-follows, switch-follows}
+use Rattle.carv_board.specs.History.{Stands, after-stands, opening-stands}
 
 -- The claim.
 

@@ -1,4 +1,4 @@
--- The root of the crate's definitions. What a reader must believe: Scheduler, Sound, Rust, Book. The others are theorems on these.
+-- The root of the crate's definitions. What a reader must believe: Scheduler, Sound, Rust, Book, Runs. The others are theorems on these.
 pub mod Scheduler
 pub mod Rust
 pub mod Sound
@@ -8,8 +8,11 @@ pub mod SoundLaws
 pub mod Steps
 pub mod Switching
 pub mod Kept
+pub mod Questions
 pub mod Refines
 pub mod Book
+pub mod Runs
+pub mod Following
 pub mod History
 pub mod Demand2
 pub mod Demand3

@@ -16,12 +16,12 @@ use Rattle.carv_budget.specs.Account as account
 use Rattle.carv_budget.specs.Laws.{first, renew-twice}
 use Rattle.carv_budget.specs.Refines.{refill-renews, charge-cpu-by}
 use Rattle.carv_registry.specs.declared.Entry.{Entry}
-use Rattle.carv_registry.specs.Reply.{refuse, accept, pays, figures, charge}
+use Rattle.carv_registry.specs.Reply.{refuse, accept, charge}
 use Rattle.carv_registry.specs.Registry as registry
 use Rattle.carv_registry.specs.Registry.{Registry, or-missing, entry, is-budget, account-of, on-account}
 use Rattle.carv_registry.specs.Rust as objects
 use Rattle.carv_registry.specs.Refines as objects-refines
-use Rattle.carv_registry.specs.Refines.{alter-known, reply-of, cpu-reply-of, an-id, nothing, a-renewal}
+use Rattle.carv_registry.specs.Refines.{alter-known}
 use Rattle.carv_board.specs.declared.Wait.{Wait}
 use Rattle.carv_board.specs.declared.Payer.{Payer}
 use Rattle.carv_board.specs.declared.Context.{Context}
@@ -365,72 +365,10 @@ exit-of-rust i b = ap (λ (x : Option ℕ). accept {A = Value} (some (exit-cause
 pub opening-rust : (cpu memory : ℕ) → cpu ≤ account.period → s01.opening cpu memory ≡ rust.new cpu memory
 opening-rust cpu memory h = rw (objects-refines.opening-rust cpu memory h)
 
--- A call of the registry answers and leaves on the board what its Rust does: the theorems of carv_registry/specs/Refines.antt, lifted.
+-- A call of the registry answers and leaves on the board what its Rust does, by the theorems of carv_registry/specs/Refines.antt.
 
 pub on-registry-rust : (a c : registry.Answers) (b : Board) → a ≡ c → on-registry a b ≡ on-registry c b
 on-registry-rust a c b q = ap (λ (x : registry.Answers). on-registry x b) q
-
--- what is added to a registry's calls is added to the board's
-registry-added : (n : ℕ) → added n ≡ false → objects-refines.added n ≡ false
-registry-added n p =
-    test (eqb n 1) (other 1 refl) λ a. rw a (test (eqb n 2) (other 2 refl) λ b. rw b (test (eqb n 4) (other 4 refl) λ c. rw c
-    (test (eqb n 6) (other 6 refl) λ d. rw d (test (eqb n 11) (other 11 refl) λ e. e))))
-  where
-    other : {B : Bool} (k : ℕ) → added k ≡ true → eqb n k ≡ true → B ≡ false
-    other k a e = let z : added k ≡ false = rw (eqb-true n k e) at p in cc
-
-lifted : (a c : registry.Answers) (b : Board) → (objects-refines.added (a .number) ≡ false → a ≡ c) → added (a .number) ≡ false → on-registry a b ≡ on-registry c b
-lifted a c b h p = on-registry-rust a c b (h (registry-added (a .number) p))
-
--- for an uncharge 7 is added too
-abbrev pub added-to-uncharge : ℕ → Bool
-added-to-uncharge n = added n || eqb n 7
-
-uncharge-added : (n : ℕ) → added-to-uncharge n ≡ false → objects-refines.added-to-uncharge n ≡ false
-uncharge-added n p = test (added n)
-    (λ a. let z : true ≡ false = rw a at p in cc)
-    (λ a. rw (registry-added n a) (rw a at p))
-
-pub create-rust : (kind payer : ℕ) (backing : Bool) (b : Board) → Sound b → added (registry.create kind payer backing (b .registry) .number) ≡ false
-    → on-registry (registry.create kind payer backing (b .registry)) b ≡ on-registry (reply-of an-id 13 (objects.create kind payer backing (b .registry))) b
-create-rust kind payer backing b s = lifted _ _ b (objects-refines.create-rust kind payer backing (b .registry) (s .registry))
-
-pub insert-rust : (kind payer bytes : ℕ) (b : Board) → Sound b → added (registry.insert kind payer bytes (b .registry) .number) ≡ false
-    → on-registry (registry.insert kind payer bytes (b .registry)) b ≡ on-registry (reply-of an-id 13 (objects.insert payer kind bytes (b .registry))) b
-insert-rust kind payer bytes b s = lifted _ _ b (objects-refines.insert-rust kind payer bytes (b .registry) (s .registry))
-
-pub create-budget-rust : (parent cpu memory time : ℕ) (b : Board) → Sound b → added (registry.create-budget parent cpu memory time (b .registry) .number) ≡ false
-    → on-registry (registry.create-budget parent cpu memory time (b .registry)) b ≡ on-registry (reply-of an-id 13 (objects.create-budget parent cpu memory time (b .registry))) b
-create-budget-rust parent cpu memory time b s = lifted _ _ b (objects-refines.create-budget-rust parent cpu memory time (b .registry) (s .registry))
-
-pub uncharge-rust : (i bytes : ℕ) (b : Board) → Sound b → added-to-uncharge (registry.uncharge i bytes (b .registry) .number) ≡ false
-    → on-registry (registry.uncharge i bytes (b .registry)) b ≡ on-registry (accept none (objects.uncharge i bytes (b .registry)) (b .registry)) b
-uncharge-rust i bytes b s p = on-registry-rust _ _ b (objects-refines.uncharge-rust i bytes (b .registry) (s .registry) (uncharge-added (registry.uncharge i bytes (b .registry) .number) p))
-
-module _ (i : ℕ) (b : Board) where
-  pub charge-more-rust : (bytes : ℕ) → Sound b
-      → on-registry (registry.charge-more i bytes (b .registry)) b ≡ on-registry (reply-of nothing 13 (objects.charge-more i bytes (b .registry))) b
-  charge-more-rust bytes s = on-registry-rust _ _ b (objects-refines.charge-more-rust i bytes (b .registry) (s .registry))
-
-  pub remove-rust : Sound b → on-registry (registry.remove i (b .registry)) b ≡ on-registry (reply-of nothing 15 (objects.remove i (b .registry))) b
-  remove-rust s = on-registry-rust _ _ b (objects-refines.remove-rust i (b .registry) (s .registry))
-
-  pub refill-rust : (time : ℕ) → on-registry (registry.refill i time (b .registry)) b ≡ on-registry (reply-of a-renewal 13 (objects.refill i time (b .registry))) b
-  refill-rust time = on-registry-rust _ _ b (objects-refines.refill-rust i time (b .registry))
-
-  pub charge-cpu-rust : (ns time : ℕ) → on-registry (registry.charge-cpu i ns time (b .registry)) b ≡ on-registry (cpu-reply-of (objects.charge-cpu i ns time (b .registry))) b
-  charge-cpu-rust ns time = on-registry-rust _ _ b (objects-refines.charge-cpu-rust i ns time (b .registry))
-
-  pub pays-for-anything-rust : on-registry (registry.pays-for-anything i (b .registry)) b
-      ≡ on-registry (accept (some (pays (objects.pays-for-anything i (b .registry)))) (b .registry) (b .registry)) b
-  pays-for-anything-rust = refl
-
-  pub read-account-rust : on-registry (registry.read-account i (b .registry)) b ≡ on-registry (objects-refines.reading-of figures (objects.budget-mut i (b .registry)) (b .registry)) b
-  read-account-rust = on-registry-rust _ _ b (objects-refines.read-account-rust i (b .registry))
-
-  pub charge-of-rust : on-registry (registry.charge-of i (b .registry)) b
-      ≡ on-registry (objects-refines.reading-of (λ c. charge (c .0) (c .1)) (objects.charge-of i (b .registry)) (b .registry)) b
-  charge-of-rust = on-registry-rust _ _ b (objects-refines.charge-of-rust i (b .registry))
 
 -- The Rust's `expect`s. On a sound board none of them fails, and no time leaves 64 bits: the current thread is there (`current_tcb`), and at a planning
 -- so are the found place, the thread that comes to run and the one that is left.

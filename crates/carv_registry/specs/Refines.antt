@@ -230,23 +230,31 @@ build-by false false true e k r x = refl
 build-by false false false true k r x = refl
 build-by false false false false k r x = refl
 
+-- `object_bytes` is 01's table
+object-bytes-is : (kind : ℕ) → rust.object-bytes kind ≡ bytes-of kind
+object-bytes-is kind = by (eqb kind 1) (eqb kind 2) (eqb kind 3) (eqb kind 4) (eqb kind 6)
+  where
+    by : (a b c d e : Bool) → _≡_ {A = ℕ} (cond a 33_792 (cond b 16_384 (cond c 4_096 (cond d 128 (cond e 128 64))))) (cond a 33_792 (cond b 16_384 (cond c 4_096 (cond (d || e) 128 64))))
+    by a b c true e = refl
+    by a b c false e = refl
+
 -- x is what `insert` answers, once the charge is credited, to a payer that has room
 module _ (kind payer : ℕ) (r charged : Registry) (x : Answers) (f : leb (bytes-of kind) (account.free (account-of r payer)) ≡ true)
     (back : rust.credit payer (bytes-of kind) charged ≡ r)
     (h : cond (leb (bytes-of kind) (account.free (account-of r payer))) x (refuse 12 r) ≡ reply-of an-id 13 (rust.insert payer kind (bytes-of kind) r)) where
   created : (b : rust.Built) → of-build r x b ≡ reply-of an-id 13 (rust.create-built b kind payer charged)
-  created rust.built = rw back (rw f at h)
-  created rust.no-backing = rw back
-  created rust.no-method = rw back
+  created rust.built = rw (object-bytes-is kind, back) (rw f at h)
+  created rust.no-backing = rw (object-bytes-is kind, back)
+  created rust.no-method = rw (object-bytes-is kind, back)
 
 pub create-rust : (kind payer : ℕ) (backing : Bool) (r : Registry) → Sound r → added (r01.create kind payer backing r .number) ≡ false
     → r01.create kind payer backing r ≡ reply-of an-id 13 (rust.create kind payer backing r)
-create-rust kind payer backing r s =
-    skip 4 (listed kind) r refl λ _. skip 6 (has-place r) r refl λ _. skip 6 (has-next r) r refl λ _ _.
+create-rust kind payer backing r s = rw (object-bytes-is kind)
+    (skip 4 (listed kind) r refl λ _. skip 6 (has-place r) r refl λ _. skip 6 (has-next r) r refl λ _ _.
     charged an-id 13 payer (bytes-of kind) r _ _ λ l f. build-by (needs-backing kind) (eqb kind 4) (eqb kind 5) (eqb kind 7) backing r _
     ∙ created kind payer r _ _ f (credit-charged payer (bytes-of kind) r (account-of r payer) l ∙ write-same payer r l)
     (paid an-id 13 payer (bytes-of kind) r _ _ l λ _. inserted (plain kind payer (bytes-of kind)) payer (λ a. account.charge a (bytes-of kind)) r (s .rising) l)
-    (rust.build kind backing)
+    (rust.build kind backing))
 
 -- a renewal leaves free memory as it is
 free-renewed : (a : Account) (n t : ℕ) → account.free (account.charge (account.renew a t) n) ≡ account.free (account.charge a n)

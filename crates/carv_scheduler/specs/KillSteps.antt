@@ -16,7 +16,6 @@ use Rattle.carv_area.specs.Keys.{findIn, after}
 use Rattle.carv_area.specs.Lookup.{Here}
 use Rattle.carv_area.specs.declared.Found.{Found}
 use Rattle.carv_area.specs.declared.Found.the-variants.{At, Nothing}
-use Rattle.carv_registry.specs.Reply.{refuse, accept}
 use Rattle.carv_board.specs.declared.Thread.{Thread}
 use Rattle.carv_scheduler.specs.declared.Answer.{Answer}
 use Rattle.carv_scheduler.specs.declared.Answer.the-variants.{Ended, EndedNothing, Refused}
@@ -34,10 +33,7 @@ use Rattle.carv_scheduler.specs.AreaSteps.{with-threads, with-queue}
 use Rattle.carv_scheduler.specs.ExitSteps.{exit, with-exits}
 use Rattle.carv_scheduler.specs.Calls.{refused, answered}
 use Rattle.carv_board.specs.Kept.{kill-kept}
-
--- the threads after the end of thread i
-abbrev pub killed : ℕ → Board → List (Row Thread)
-killed i b = cond (eqb i (b .current)) (alter i (become dead no-wait) (b .threads)) (erase i (b .threads))
+use Rattle.carv_board.specs.Questions.{killed, kill-unlisted, kill-idle, kill-missing, kill-done}
 
 -- what a kill answers of a thread as it was
 abbrev pub wait-answer : Thread → Answer
@@ -113,39 +109,18 @@ module _ (t : Thread) where
   answer-value : value (wait-answer t) ≡ some (ended (wait-of t))
   answer-value = test (is blocked t) (λ e. rw e) (λ e. rw e)
 
--- `kill`, question by question.
-module _ (x cause : ℕ) (b : Board) where
-  kill-unlisted : cause-listed cause ≡ false → kill x cause b ≡ refuse 4 b
-  kill-unlisted c = rw c
-
-  kill-idle : cause-listed cause ≡ true → x ≡ idle → kill x cause b ≡ refuse 5 b
-  kill-idle c n = rw (c, eq-eqb x idle n)
-
-  module _ (c : cause-listed cause ≡ true) (n : x ≡ idle → ⊥) where
-    kill-missing : has (b .threads) x ≡ false → kill x cause b ≡ refuse 7 b
-    kill-missing h = rw (c, ne-eqb x idle n, h)
-
-    kill-done : has (b .threads) x ≡ true → kill x cause b ≡ accept (some (ended (wait-of (thread (b .threads) x)))) (record {
-      registry = b .registry;
-      threads = killed x b;
-      queue = without x (b .queue);
-      current = b .current;
-      switches = b .switches;
-      exits = logged (exit x cause) (b .exits);
-    }) b
-    kill-done h = rw (c, ne-eqb x idle n, h)
-
+-- `kill`, question by question, on a sound area.
 module _ (a : List ℕ) (s : sound-area a ≡ true) (x cause : ℕ) where
-  pub kill-4 : cause-listed cause ≡ false → Serves (kill x cause) a (Refused 4) a
-  kill-4 c = refused (kill x cause) a s 4 (kill-unlisted x cause (decode a) c)
+  pub unlisted-served : cause-listed cause ≡ false → Serves (kill x cause) a (Refused 4) a
+  unlisted-served c = refused (kill x cause) a s 4 (kill-unlisted x cause (decode a) c)
 
   module _ (c : cause-listed cause ≡ true) where
-    pub kill-5 : x ≡ idle → Serves (kill x cause) a (Refused 5) a
-    kill-5 n = refused (kill x cause) a s 5 (kill-idle x cause (decode a) c n)
+    pub idle-served : x ≡ idle → Serves (kill x cause) a (Refused 5) a
+    idle-served n = refused (kill x cause) a s 5 (kill-idle x cause (decode a) c n)
 
     module _ (n : x ≡ idle → ⊥) where
-      pub kill-7 : has (decode a .threads) x ≡ false → Serves (kill x cause) a (Refused 7) a
-      kill-7 h = refused (kill x cause) a s 7 (kill-missing x cause (decode a) c n h)
+      pub missing-served : has (decode a .threads) x ≡ false → Serves (kill x cause) a (Refused 7) a
+      missing-served h = refused (kill x cause) a s 7 (kill-missing x cause (decode a) c n h)
 
       module _ (a₁ : List ℕ) (l₁ : Leaves a₁ (with-threads (killed x (decode a)) (decode a))) where
         pub kill-distinct : distinct (decode a₁ .queue) ≡ true

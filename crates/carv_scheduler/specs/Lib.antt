@@ -8,7 +8,6 @@ pub mod Room
 pub mod AreaLaws
 pub mod AreaExact
 pub mod Calls
-pub mod Questions
 pub mod RowWords
 pub mod Places
 pub mod CallSteps

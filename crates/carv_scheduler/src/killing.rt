@@ -18,7 +18,8 @@ ghost use Rattle.carv_scheduler.specs.Area.{decode, sound-area, Serves};
 ghost use Rattle.carv_scheduler.specs.Rows.{no-row};
 ghost use Rattle.carv_scheduler.specs.Formed.{WellFormed, Leaves};
 ghost use Rattle.carv_scheduler.specs.AreaSteps.{with-threads, with-queue};
-ghost use Rattle.carv_scheduler.specs.KillSteps.{killed, wait-answer};
+ghost use Rattle.carv_board.specs.Questions.{killed};
+ghost use Rattle.carv_scheduler.specs.KillSteps.{wait-answer};
 
 // Is the cause Destroyed or Faulted?
 pub fn is_cause(cause: u64) -> bool

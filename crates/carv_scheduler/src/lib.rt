@@ -309,7 +309,7 @@ pub fn read_thread(area: &[u8], id: u64) -> Answer
 
 // The current thread.
 pub fn current(area: &[u8]) -> Answer
-    ensures { λ r. ⌜ Answered (read-current) (now (area .entry)) r (now (area .entry)) ⌝ }
+    ensures { λ r. ⌜ Answered read-current (now (area .entry)) r (now (area .entry)) ⌝ }
 {
     if !is_sound(area) {
         return Answer::Refused(1);
@@ -319,7 +319,7 @@ pub fn current(area: &[u8]) -> Answer
 
 // How many context switches there were.
 pub fn switches(area: &[u8]) -> Answer
-    ensures { λ r. ⌜ Answered (read-switches) (now (area .entry)) r (now (area .entry)) ⌝ }
+    ensures { λ r. ⌜ Answered read-switches (now (area .entry)) r (now (area .entry)) ⌝ }
 {
     if !is_sound(area) {
         return Answer::Refused(1);

@@ -3,7 +3,7 @@ use mathlib.Core.Bool.{Bool, true, false, not, cond, false≢true}
 use mathlib.Core.List.{List}
 use mathlib.Core.Logic.{_⊎_, ⊎-elim}
 use mathlib.Core.Path.{_≡_, refl, sym, ap, _∙_}
-use Prim.Native.Nat.{ℕ, _+_, _*_, _≤_, _<_}
+use Prim.Native.Nat.{ℕ, zero, suc, _+_, _*_, _≤_, _<_}
 use native.Mathlib.Numerals.{add-one}
 use native.Mathlib.Omega.{arith}
 use lib.ListN.{length, getD, replicate}
@@ -52,17 +52,18 @@ module _ (l : List ℕ) (k : ℕ) where
   other-word out r i v b p n =
       (λ q. absurd (false≢true q), λ q. absurd (n (ap (λ (x : List ℕ). getD x i 0) (q .1) ∙ getD-tab 20 (recorded-word l k) i 0 b ∙ sym p)))
 
--- a listed code that is none of the first 23
-module _ (op : ℕ) where
-  above : (n : ℕ) → n ≤ op → (op ≡ n → ⊥) → n + 1 ≤ op
-  above n h k = omega (arith, h, k)
+-- none of the codes 1 to n, as the last arm of a match has it
+abbrev pub Others : (n op : ℕ) → Type 0
+Others zero op = Unit {0}
+Others (suc n) op = Others n op × (op ≡ suc n → ⊥)
 
-  pub last-code : 1 ≤ op → op ≤ 24 → (op ≡ 1 → ⊥) → (op ≡ 2 → ⊥) → (op ≡ 3 → ⊥) → (op ≡ 4 → ⊥) → (op ≡ 5 → ⊥) → (op ≡ 6 → ⊥) → (op ≡ 7 → ⊥) → (op ≡ 8 → ⊥)
-      → (op ≡ 9 → ⊥) → (op ≡ 10 → ⊥) → (op ≡ 11 → ⊥) → (op ≡ 12 → ⊥) → (op ≡ 13 → ⊥) → (op ≡ 14 → ⊥) → (op ≡ 15 → ⊥) → (op ≡ 16 → ⊥) → (op ≡ 17 → ⊥)
-      → (op ≡ 18 → ⊥) → (op ≡ 19 → ⊥) → (op ≡ 20 → ⊥) → (op ≡ 21 → ⊥) → (op ≡ 22 → ⊥) → (op ≡ 23 → ⊥) → op ≡ 24
-  last-code h t n1 n2 n3 n4 n5 n6 n7 n8 n9 n10 n11 n12 n13 n14 n15 n16 n17 n18 n19 n20 n21 n22 n23 =
-      let k : 24 ≤ op = above 23 (above 22 (above 21 (above 20 (above 19 (above 18 (above 17 (above 16 (above 15 (above 14 (above 13 (above 12 (above 11 (above 10 (above 9 (above 8 (above 7 (above 6 (above 5 (above 4 (above 3 (above 2 (above 1 h n1) n2) n3) n4) n5) n6) n7) n8) n9) n10) n11) n12) n13) n14) n15) n16) n17) n18) n19) n20) n21) n22) n23 in
-      omega (arith, t, k)
+-- a listed code that is none of the first n
+pub last-code : (n op : ℕ) → 1 ≤ op → op ≤ n + 1 → Others n op → op ≡ n + 1
+last-code n op h t k = omega (arith, above n k, t)
+  where
+    above : (m : ℕ) → Others m op → m + 1 ≤ op
+    above zero o = h
+    above (suc m) o = omega (arith, above m (o .0), o .1)
 
 -- a record's call that is not made, and one that is
 module _ (l : List ℕ) (k : ℕ) (a : List ℕ) (c : Call) (e : c ≡ call l k) where

@@ -8,7 +8,7 @@ pub mod about;
 mod boards;
 mod calls;
 mod case;
-mod clock;
+pub mod clock;
 mod filled;
 pub mod glance;
 mod line;
@@ -17,7 +17,7 @@ mod registry;
 mod threads;
 
 pub use calls::calls;
-pub use line::{HEAD, Line};
+pub use line::{HEAD, Less, Line};
 pub use question::question;
 pub use registry::registry;
 pub use threads::threads;

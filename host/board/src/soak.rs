@@ -5,11 +5,9 @@
 //! call. So the count of a run repeats it, whatever the machine's speed.
 
 pub mod command;
-mod json;
 mod life;
 mod options;
 mod report;
-mod text;
 
 pub use options::{Limit, Options};
 pub use report::Report;

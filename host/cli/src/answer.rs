@@ -1,9 +1,9 @@
 //! What a call answers, and its fields with their names.
 
 use crate::codes::{self, CAUSES, KINDS, STATES, WAITS};
-use crate::json::Json;
 use carv::{Account, Cause, Charge, Context, ObjectId, Switch, ThreadId, ThreadRecord, Wait};
 use carv_layout::area::{self, ObjectRow, ThreadRow};
+use carv_text::json::Json;
 
 /// The answer of an accepted call.
 #[derive(Clone, Debug, PartialEq, Eq)]
@@ -42,12 +42,12 @@ impl Answer {
     /// Its fields. What isn't there is `null`.
     pub fn json(&self) -> Json {
         match self {
-            Self::Done => Json::object([]),
+            Self::Done => Json::object::<&str>([]),
             Self::Sound(yes) => Json::object([("sound", (*yes).into())]),
             Self::Id(id) => Json::object([("id", id.0.into())]),
             Self::Renewed(yes) => Json::object([("renewed", (*yes).into())]),
             Self::Pays(yes) => Json::object([("pays", (*yes).into())]),
-            Self::Account(account) => Json::Object(account_fields(figures(account))),
+            Self::Account(account) => Json::object(account_fields(figures(account))),
             Self::Charge(charge) => Json::object([
                 ("payer", charge.payer.0.into()),
                 ("bytes", charge.bytes.into()),
@@ -57,7 +57,7 @@ impl Answer {
                 Json::object([("wait", wait.map(|it| wait_json(it.codes())).into())])
             }
             Self::Planned(switch) => Json::object([("switch", switch.map(switch_json).into())]),
-            Self::Thread(record) => Json::Object(thread_fields(&row(record))),
+            Self::Thread(record) => Json::object(thread_fields(&row(record))),
             Self::Current(thread) => Json::object([("thread", thread.0.into())]),
             Self::Switches(count) => Json::object([("switches", (*count).into())]),
             Self::Exit(cause) => {
@@ -155,7 +155,7 @@ pub fn thread_fields(row: &ThreadRow) -> Vec<(&'static str, Json)> {
             (row.budget[0] == 1).then_some(row.budget[1]).into(),
         ),
         ("space", (has_space == 1).then_some(space).into()),
-        ("context", Json::Object(registers.collect())),
+        ("context", Json::object(registers)),
         ("results", Json::list(row.results)),
         ("run_ticks", row.run_ticks.into()),
     ]

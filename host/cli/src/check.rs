@@ -2,12 +2,12 @@
 
 use crate::area::AreaFile;
 use crate::figures::{count, grouped};
-use crate::json::Json;
 use crate::output::Output;
 use crate::status::{Failure, Status};
 use carv::{Board, MOST_EXITS, MOST_OBJECTS, MOST_THREADS};
 use carv_layout::area::{self, Table};
 use carv_layout::sound::{self, Fault};
+use carv_text::json::Json;
 use std::fmt::Write;
 use std::path::Path;
 

@@ -8,13 +8,13 @@ use crate::area::AreaFile;
 use crate::check::figures;
 use crate::codes::CAUSES;
 use crate::figures::count;
-use crate::json::Json;
 use crate::names::Names;
 use crate::output::Output;
 use crate::status::{Failure, Status};
 use crate::text::thread_id;
 use carv_layout::area::{self, Exit, ObjectRow, Table, ThreadRow};
 use carv_layout::{BUDGET, sound};
+use carv_text::json::Json;
 use std::path::Path;
 
 /// Prints a file and answers the exit status.
@@ -94,7 +94,7 @@ pub fn json(area: &[u8], names: &Names) -> Json {
         ),
         (
             "objects",
-            Json::list(others.map(|row| Json::Object(object_fields(row)))),
+            Json::list(others.map(|row| Json::object(object_fields(row)))),
         ),
         ("threads", Json::list(threads.iter().map(thread_json))),
         ("queue", Json::list(table.queue.iter().copied())),
@@ -107,13 +107,13 @@ fn budget_json(row: &ObjectRow, names: &Names) -> Json {
     let mut fields = object_fields(row);
     fields.insert(1, ("name", names.get(row.id).into()));
     fields.extend(account_fields(row.account));
-    Json::Object(fields)
+    Json::object(fields)
 }
 
 fn thread_json(row: &ThreadRow) -> Json {
     let mut fields = vec![("id", row.id.into())];
     fields.extend(thread_fields(row));
-    Json::Object(fields)
+    Json::object(fields)
 }
 
 fn exit_json(exit: &Exit) -> Json {

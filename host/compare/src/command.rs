@@ -1,7 +1,8 @@
 //! What the programs share: the command line, and records written out.
 
+use std::fmt::Display;
 use std::io::{self, BufWriter, Write};
-use std::process::ExitCode;
+use std::process::{self, ExitCode};
 
 /// How a program was called wrongly, or else what went wrong with it.
 pub type Done = Result<Result<(), String>, String>;
@@ -74,6 +75,18 @@ pub fn write_out<const BYTES: usize>(
 ) -> Result<(), String> {
     let mut to = BufWriter::new(io::stdout().lock());
     write_records(&mut to, records, count).map_err(|why| format!("can't write the records: {why}"))
+}
+
+/// Prints a line to standard output. The program ends if that isn't read any more (status 0), or
+/// can't be written (status 1).
+pub fn say(line: impl Display) {
+    if let Err(why) = writeln!(io::stdout(), "{line}") {
+        if why.kind() == io::ErrorKind::BrokenPipe {
+            process::exit(0);
+        }
+        eprintln!("standard output can't be written: {why}");
+        process::exit(1);
+    }
 }
 
 /// A number on the command line.

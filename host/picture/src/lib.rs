@@ -28,7 +28,6 @@ mod period;
 mod picture;
 mod rows;
 mod svg;
-pub mod text;
 mod trace;
 
 pub use doing::Doing;

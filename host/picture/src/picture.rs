@@ -10,7 +10,7 @@ mod summary;
 mod window;
 
 use crate::Trace;
-use crate::text::wrapped;
+use carv_text::figures::wrapped;
 use scene::Scene;
 use sheet::Sheet;
 use style::{TEXT, TITLE};

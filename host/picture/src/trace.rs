@@ -2,9 +2,9 @@
 
 use crate::glimpse::{Glimpse, Seen};
 use crate::period::Period;
-use crate::text::cut;
 use crate::{Doing, TICKS};
 use carv::{Board, ObjectId};
+use carv_text::figures::cut;
 use std::collections::{BTreeMap, BTreeSet};
 use std::ops::RangeInclusive;
 

@@ -6,7 +6,7 @@ use crate::services::{BOARD, EVENTS, Event, FIRST, LAST, PERIOD, SERVICES, Servi
 use crate::setup::{Live, switch_off, switch_on};
 use carv::{Board, Limits, ObjectId, Refusal, TICK_NS, ThreadId, Wait};
 use carv_picture::Doing;
-use carv_picture::text::grouped;
+use carv_text::figures::grouped;
 
 /// Runs the day.
 pub fn run() -> Result<Day, Refusal> {

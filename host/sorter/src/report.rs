@@ -3,8 +3,8 @@
 use crate::record::Day;
 use crate::services::{PERIOD, PERIODS, SERVICES};
 use carv::{PERIOD_NS, TICK_NS};
-use carv_picture::text::{grouped, ms, wrapped};
 use carv_picture::{Rows, Total};
+use carv_text::figures::{grouped, ms, wrapped};
 
 /// Something that must hold of the day.
 #[derive(Debug)]

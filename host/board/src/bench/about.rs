@@ -14,8 +14,8 @@ pub fn about() -> String {
 - built with: {}, profile {}
 - the port: {}
 - the Rust: its own files, unchanged, in the same build
-- measured: medians of {ROUNDS} rounds of at least {} µs; a round of the port, one of question 1
-  and one of the Rust follow each other",
+- measured: {ROUNDS} times a round of the port, one of question 1 and one of the Rust, each of at
+  least {} µs; medians of the fastest quarter of these",
         processor.unwrap_or("unknown"),
         env!("BOARD_COMPILER"),
         env!("BOARD_PROFILE"),

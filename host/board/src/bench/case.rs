@@ -1,8 +1,8 @@
 //! Measures calls on both sides.
 
 use super::boards::Boards;
-use super::clock::{Clock, ROUNDS, median, timed};
-use super::{Ids, Line};
+use super::clock::{Clock, ROUNDS, fastest_quarter, median, timed};
+use super::{Ids, Less, Line};
 use crate::port::Port;
 use carv_oracle::Board;
 use std::hint::black_box;
@@ -72,7 +72,7 @@ impl Case {
             let whole = on_port.round(|turns| timed(turns, |n| (turn.port)(black_box(port), n)));
             let sound = is_sound.round(|turns| timed(turns, |_| asks(port)));
             let rust = on_rust.round(|turns| timed(turns, |n| (turn.rust)(black_box(rust), n)));
-            [whole, whole - questions * sound, rust]
+            [whole, questions * sound, rust]
         })
     }
 
@@ -95,28 +95,41 @@ impl Case {
             (0..BATCH).for_each(|place| (undo.port)(port, place));
             let rust = on_rust.round(|turns| batch(turns, rust, &mut call.rust, &mut undo.rust));
             let [whole, rust] = [whole, rust].map(|time| time / BATCH as f64);
-            [whole, whole - (before + behind) / 2.0, rust]
+            [whole, (before + behind) / 2.0, rust]
         })
     }
 
-    /// Medians of rounds, each of which answers the port's time, that without question 1, and the
-    /// Rust's.
+    /// The figures of rounds, each of which answers the port's time, that of question 1 in it, and
+    /// the Rust's. How far the time less question 1 may be off is seen from three parts of them.
     fn rounds(self, mut round: impl FnMut() -> [f64; 3]) -> Line {
-        let rounds: Vec<[f64; 3]> = (0..ROUNDS).map(|_| round()).collect();
-        let [port, less, rust] =
-            [0, 1, 2].map(|time| median(rounds.iter().map(|r| r[time])) / self.parts);
+        let rounds: Vec<[f64; 3]> = (0..ROUNDS)
+            .map(|_| round().map(|time| time / self.parts))
+            .collect();
+        let less = |rounds: &[[f64; 3]]| {
+            let rounds = fastest_quarter(rounds);
+            median(rounds.iter().map(|[whole, question, _]| whole - question))
+        };
+        let parts = || rounds.chunks_exact(ROUNDS / 3).map(less);
+        let highest = parts().fold(f64::NEG_INFINITY, f64::max);
+        let lowest = parts().fold(f64::INFINITY, f64::min);
+        let fast = fastest_quarter(&rounds);
         Line {
-            less: Some(less),
-            rust: Some(rust),
-            ..self.line(port)
+            less: Some(Less {
+                time: less(&rounds),
+                off: (highest - lowest) / 2.0,
+            }),
+            rust: Some(median(fast.iter().map(|round| round[2]))),
+            ..self.line(median(fast.iter().map(|round| round[0])))
         }
     }
 
     /// Times question 1 alone, which the Rust doesn't ask.
     pub fn question(self, port: Port) -> Line {
         let mut clock = Clock::default();
-        let times = (0..ROUNDS).map(|_| clock.round(|turns| timed(turns, |_| asks(&port))));
-        self.line(median(times))
+        let mut round = || clock.round(|turns| timed(turns, |_| asks(&port)));
+        let rounds: Vec<[f64; 3]> = (0..ROUNDS).map(|_| [round(), 0.0, 0.0]).collect();
+        let fast = fastest_quarter(&rounds);
+        self.line(median(fast.iter().map(|round| round[0])))
     }
 
     fn line(&self, port: f64) -> Line {

@@ -37,8 +37,7 @@ impl fmt::Display for Glance<'_> {
 /// The ratio without question 1; only a bound where that is all that can be told.
 fn less(line: &Line) -> String {
     match (line.bounds(), line.ratio_less()) {
-        (Some((low, high)), _) if low < 0.0 && high < EVEN.start => format!("< {high:.2}"),
-        (Some((low, _)), _) if low < 0.0 => String::new(),
+        (Some((low, high)), _) if low < 0.0 => format!("< {high:.2}"),
         (_, ratio) => cell(ratio, 2),
     }
 }
@@ -48,16 +47,16 @@ fn verdict(line: &Line) -> String {
     match (line.bounds(), line.ratio_less()) {
         (Some((_, high)), _) if high < EVEN.start => "faster".to_string(),
         (Some((low, _)), Some(ratio)) if low > EVEN.end => format!("slower, {ratio:.1} times"),
-        (Some((low, _)), Some(ratio)) if low > 0.0 && EVEN.contains(&ratio) => {
-            "about even".to_string()
-        }
-        _ => "too short to tell".to_string(),
+        (Some((low, high)), _) if low >= EVEN.start && high <= EVEN.end => "about even".to_string(),
+        (Some((_, high)), _) => format!("at most {high:.1} times"),
+        _ => String::new(),
     }
 }
 
 #[cfg(test)]
 mod tests {
     use super::*;
+    use crate::bench::Less;
 
     fn line(port: f64, less: f64) -> Line {
         Line {
@@ -65,7 +64,10 @@ mod tests {
             ids: Ids::Dense,
             name: "start",
             port,
-            less: Some(less),
+            less: Some(Less {
+                time: less,
+                off: 10.0,
+            }),
             rust: Some(100.0),
         }
     }
@@ -74,11 +76,11 @@ mod tests {
     fn verdicts() {
         for (port, time, ratio, expected) in [
             (500.0, 50.0, "0.50", "faster"),
-            (1_000.0, -3.0, "< 0.47", "faster"),
-            (1_000.0, 79.0, "0.79", "too short to tell"),
-            (1_000.0, 100.0, "1.00", "about even"),
+            (1_000.0, -3.0, "< 0.27", "faster"),
+            (1_000.0, 79.0, "0.79", "at most 1.1 times"),
+            (250.0, 100.0, "1.00", "about even"),
             (1_000.0, 260.0, "2.60", "slower, 2.6 times"),
-            (9_000.0, 80.0, "", "too short to tell"),
+            (9_000.0, 80.0, "< 2.70", "at most 2.7 times"),
         ] {
             let line = line(port, time);
             assert_eq!(

@@ -15,9 +15,18 @@ pub struct Line {
     /// The port's time.
     pub port: f64,
     /// The port's time without what question 1 takes on the same area.
-    pub less: Option<f64>,
+    pub less: Option<Less>,
     /// The Rust's time.
     pub rust: Option<f64>,
+}
+
+/// A time without question 1.
+#[derive(Clone, Copy, Debug)]
+pub struct Less {
+    /// The time.
+    pub time: f64,
+    /// How far it may be off, by what the rounds show.
+    pub off: f64,
 }
 
 /// The head of a table.
@@ -25,9 +34,10 @@ pub const HEAD: &str = "\
 | board                    | ids       | calls                          | port, ns | less question 1, ns | Rust, ns |  ratio | ratio less question 1 |
 |--------------------------|-----------|--------------------------------|---------:|--------------------:|---------:|-------:|----------------------:|";
 
-/// How far a time less question 1 may be off, as a part of the whole time. In three runs on a busy
-/// machine nine rows of ten differed by less than this, the worst by 8 %.
-const UNCERTAIN: f64 = 0.05;
+/// How far a time less question 1 may be off beside what its rounds show, as a part of the whole
+/// time: question 1 doesn't take quite the same alone and in front of a call. Calls that take
+/// next to nothing came out as low as -1.9 % of the whole.
+const UNCERTAIN: f64 = 0.02;
 
 impl Line {
     /// The port's time over the Rust's, if there is one.
@@ -37,14 +47,15 @@ impl Line {
 
     /// The same without question 1.
     pub fn ratio_less(&self) -> Option<f64> {
-        Some(self.less? / self.rust?)
+        Some(self.less?.time / self.rust?)
     }
 
     /// Between what the ratio without question 1 lies: the time is a difference of two long ones.
     pub fn bounds(&self) -> Option<(f64, f64)> {
         let (less, rust) = (self.less?, self.rust?);
-        let uncertain = self.port * UNCERTAIN;
-        Some(((less - uncertain) / rust, (less + uncertain) / rust))
+        let uncertain = less.off + self.port * UNCERTAIN;
+        let bounds = [less.time - uncertain, less.time + uncertain];
+        Some(bounds.map(|time| time / rust).into())
     }
 }
 
@@ -60,7 +71,7 @@ impl fmt::Display for Line {
         } = self;
         write!(f, "| {board:24} | {ids:9} | {name:30} |")?;
         write!(f, " {:>8} |", cell(Some(self.port), 0))?;
-        write!(f, " {:>19} |", cell(self.less, 0))?;
+        write!(f, " {:>19} |", cell(self.less.map(|less| less.time), 0))?;
         write!(f, " {:>8} |", cell(self.rust, 1))?;
         write!(f, " {:>6} |", cell(self.ratio(), 1))?;
         write!(f, " {:>21} |", cell(self.ratio_less(), 2))

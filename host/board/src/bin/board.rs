@@ -2,7 +2,7 @@
 
 use carv_board_host::tally::Tally;
 use carv_board_host::{damaged, runs, short, soak};
-use carv_compare::command::{self, Done, numbers};
+use carv_compare::command::{self, Done, numbers, say};
 use std::io;
 use std::process::ExitCode;
 
@@ -53,7 +53,7 @@ fn compare(arguments: &[&str]) -> Done {
             return Err(expected.to_string());
         }
     };
-    Ok(done.map(|report| println!("{report}")))
+    Ok(done.map(say))
 }
 
 fn random((count, seed): (u64, u64)) -> Result<String, String> {

@@ -1,8 +1,8 @@
 //! Times the port's board beside the Rust's and prints tables in Markdown.
 
 use carv_board_host::bench::glance::{Glance, is_shown};
-use carv_board_host::bench::{HEAD, Line, about, calls, question, registry, threads};
-use carv_compare::command::program;
+use carv_board_host::bench::{HEAD, Line, about, calls, clock, question, registry, threads};
+use carv_compare::command::{program, say};
 use std::process::ExitCode;
 
 const HELP: &str = "\
@@ -26,15 +26,16 @@ each call once, `board_bench registry 100` the registry's calls on 100 objects.
 How to read it: every call of the port but open and image first asks question 1 of the whole
 state, which the Rust doesn't. `port` is the time with that, `less question 1` the time without
 what is_sound takes alone on the same board. A ratio is the port's time over the Rust's: below 1
-the port is faster. A time less question 1 is a difference of two long ones: on a busy machine it
-moved by up to 5 % of the whole time from run to run in nine rows of ten. The last table says only
-what that allows; for more, compare several runs.
+the port is faster. A time less question 1 is a difference of two long ones. The last table says
+only what can be told in spite of that; for more, compare several runs.
 
-How it measures: each time is a median of many short rounds, the port's and the Rust's by turns.
-Calls that undo each other are timed in pairs, and the time is half that of the pair. `tick, plan`
-and `block_current, wake, plan` have the time of all their calls. create_user_thread, start, wake
-and kill are timed alone, 32 at a time, and undone in between. Run it on a machine that does
-nothing else: the ratios stand that better than the times.
+How it measures: a short round of the port, one of question 1 and one of the Rust follow each
+other many times; the figures are medians of the fastest quarter of these, as what else the
+machine does makes times longer and never shorter. Calls that
+undo each other are timed in pairs, and the time is half that of the pair. `tick, plan` and
+`block_current, wake, plan` have the time of all their calls. create_user_thread, start, wake and
+kill are timed alone, 32 at a time, and undone in between. Run it on a machine that does nothing
+else: the ratios stand that better than the times.
 
 Exit status: 0 if all went well, 2 if called wrongly.
 ";
@@ -67,23 +68,24 @@ fn or_all<T: Copy>(chosen: Vec<T>, all: &[T]) -> Vec<T> {
 }
 
 fn tables(parts: &[&str], sizes: &[usize]) {
-    println!("{}\n", about::about());
+    say(format_args!("{}\n", about::about()));
+    clock::warm_up();
     let mut lines = Vec::new();
     let mut told = |line: Line| {
-        println!("{line}");
+        say(&line);
         lines.push(line);
     };
     for part in parts {
-        println!("{HEAD}");
+        say(HEAD);
         match *part {
             "calls" => calls(&mut told),
             "threads" => threads(&mut told),
             "question" => question(&mut told),
             _ => registry(sizes, &mut told),
         }
-        println!();
+        say("");
     }
     if lines.iter().any(is_shown) {
-        print!("{}", Glance(&lines));
+        say(Glance(&lines));
     }
 }

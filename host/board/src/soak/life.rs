@@ -1,8 +1,8 @@
 //! Tells on standard error how far a soak is: a line that is written anew on a terminal, else a
 //! line from time to time, so that a log shows life.
 
-use super::text::{grouped, short};
 use super::{Limit, Report};
+use carv_text::figures::{grouped, short};
 use std::io::{self, IsTerminal, Write};
 use std::time::Duration;
 

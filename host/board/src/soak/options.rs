@@ -1,7 +1,7 @@
 //! The arguments of a soak.
 
-use super::text::counted;
 use carv_compare::command::number;
+use carv_text::figures::counted;
 use std::fmt;
 use std::time::{Duration, SystemTime, UNIX_EPOCH};
 

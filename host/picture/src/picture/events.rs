@@ -4,7 +4,7 @@ use super::scene::Scene;
 use super::sheet::Sheet;
 use super::style::{INK, SMALL, TEXT, THIN};
 use crate::svg::Anchor;
-use crate::text::{grouped, ms};
+use carv_text::figures::{grouped, ms};
 
 /// The distance between numbers that would overlap, and how many stand over each other.
 const STEP: f64 = 17.0;

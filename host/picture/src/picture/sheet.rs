@@ -5,7 +5,7 @@ use super::style::{FAINT, HEADING, INK, NAME, NUMBER, PATTERNS, RULE, SMALL, TEX
 use crate::TICKS;
 use crate::rows::{Kind, Row};
 use crate::svg::{Anchor, Area, Svg, Type};
-use crate::text::{cut, cut_inside, ms};
+use carv_text::figures::{cut, cut_inside, ms};
 
 /// The widest plot, ms and column, and room for figures right of the plots.
 const PLOT: f64 = 920.0;

@@ -8,8 +8,8 @@ use super::style::{DASHES, DOTS, FAINT, HELD_INK, INK, OFF, RULE, SHOWN_INK};
 use crate::TICKS;
 use crate::rows::{Kind, Row};
 use crate::svg::Area;
-use crate::text::{grouped, ms};
 use carv::PERIOD_NS;
+use carv_text::figures::{grouped, ms};
 
 /// The height of a mark below a bar, and the least width of the band where the window is.
 const MARK: f64 = 5.0;

@@ -9,9 +9,9 @@ use crate::part::Part;
 use crate::period::PLACES;
 use crate::rows::{Kind, Row};
 use crate::svg::{Anchor, Area};
-use crate::text::{grouped, ms};
 use crate::{Doing, TICKS};
 use carv::TICK_NS;
+use carv_text::figures::{grouped, ms};
 use std::collections::BTreeMap;
 
 /// The height of a meter.

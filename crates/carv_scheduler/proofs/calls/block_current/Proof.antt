@@ -7,7 +7,7 @@ use Rattle.carv_scheduler.specs.Formed.{leaves-as}
 use Rattle.carv_scheduler.specs.AreaLaws.{area-formed, area-sound}
 use Rattle.carv_scheduler.specs.Calls.{refused, answered}
 use Rattle.carv_scheduler.specs.CallSteps.{here-is, here-not, blocked-current}
-use Rattle.carv_scheduler.specs.Questions.{block-unlisted, block-other, block-idle, block-done}
+use Rattle.carv_board.specs.Questions.{block-unlisted, block-other, block-idle, block-done}
 use Rattle.carv_scheduler.specs.Area.{decode}
 use Rattle.carv_scheduler.proofs.calls.block_current.Statement.{statement}
 use Rattle.carv_scheduler.proofs.calls.block_current.Tie as tie

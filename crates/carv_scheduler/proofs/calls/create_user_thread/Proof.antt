@@ -8,7 +8,7 @@ use Rattle.carv_scheduler.specs.Formed.{leaves-as}
 use Rattle.carv_scheduler.specs.AreaLaws.{area-formed, area-sound}
 use Rattle.carv_scheduler.specs.Calls.{refused, answered}
 use Rattle.carv_scheduler.specs.CallSteps.{new-id, created-is}
-use Rattle.carv_scheduler.specs.Questions.{create-known, create-first, create-idle, create-full, create-stack, create-done}
+use Rattle.carv_board.specs.Questions.{create-known, create-first, create-idle, create-full, create-stack, create-done}
 use Rattle.carv_scheduler.specs.Area.{decode}
 use Rattle.carv_scheduler.proofs.calls.create_user_thread.Statement.{statement}
 use Rattle.carv_scheduler.proofs.calls.create_user_thread.Tie as tie

@@ -7,7 +7,7 @@ use Rattle.carv_board.specs.Scheduler.{record-of}
 use Rattle.carv_scheduler.specs.AreaLaws.{area-formed}
 use Rattle.carv_scheduler.specs.Calls.{refused, read-serves}
 use Rattle.carv_scheduler.specs.Places.{found-here, found-gone, here-has, here-thread, gone-has}
-use Rattle.carv_scheduler.specs.Questions.{read-missing, read-done}
+use Rattle.carv_board.specs.Questions.{read-missing, read-done}
 use Rattle.carv_scheduler.specs.Area.{decode}
 use Rattle.carv_scheduler.proofs.calls.read_thread.Statement.{statement}
 use Rattle.carv_scheduler.proofs.calls.read_thread.Tie as tie

@@ -7,7 +7,7 @@ use Rattle.carv_scheduler.specs.AreaLaws.{area-formed, area-sound}
 use Rattle.carv_scheduler.specs.Calls.{refused, answered}
 use Rattle.carv_scheduler.specs.Places.{found-here, found-gone, here-has, gone-has}
 use Rattle.carv_scheduler.specs.CallSteps.{here-is, here-not, start-room, started-is}
-use Rattle.carv_scheduler.specs.Questions.{start-missing, start-other, start-done}
+use Rattle.carv_board.specs.Questions.{start-missing, start-other, start-done}
 use Rattle.carv_scheduler.specs.Area.{decode}
 use Rattle.carv_scheduler.proofs.calls.start.Statement.{statement}
 use Rattle.carv_scheduler.proofs.calls.start.Tie as tie

@@ -105,4 +105,4 @@ make-spec =
     (λ c. switches-read (c .before .before .before .before .before .match .keys23) (c .before .before .carv-switches .ensures) refl)  -- returns-23
     (λ c. search needs)  -- same-length-47
     (λ c. search needs)  -- same-length-48
-    (λ c. exit-read (last-code _ (c .before .before .before .before .before .before .before .before .pre .0) (c .before .before .before .before .before .before .before .before .pre .1) (c .before .before .before .before .before .match .rest .0 .0 .0 .0 .0 .0 .0 .0 .0 .0 .0 .0 .0 .0 .0 .0 .0 .0 .0 .0 .0 .0 .1) (c .before .before .before .before .before .match .rest .0 .0 .0 .0 .0 .0 .0 .0 .0 .0 .0 .0 .0 .0 .0 .0 .0 .0 .0 .0 .0 .1) (c .before .before .before .before .before .match .rest .0 .0 .0 .0 .0 .0 .0 .0 .0 .0 .0 .0 .0 .0 .0 .0 .0 .0 .0 .0 .1) (c .before .before .before .before .before .match .rest .0 .0 .0 .0 .0 .0 .0 .0 .0 .0 .0 .0 .0 .0 .0 .0 .0 .0 .0 .1) (c .before .before .before .before .before .match .rest .0 .0 .0 .0 .0 .0 .0 .0 .0 .0 .0 .0 .0 .0 .0 .0 .0 .0 .1) (c .before .before .before .before .before .match .rest .0 .0 .0 .0 .0 .0 .0 .0 .0 .0 .0 .0 .0 .0 .0 .0 .0 .1) (c .before .before .before .before .before .match .rest .0 .0 .0 .0 .0 .0 .0 .0 .0 .0 .0 .0 .0 .0 .0 .0 .1) (c .before .before .before .before .before .match .rest .0 .0 .0 .0 .0 .0 .0 .0 .0 .0 .0 .0 .0 .0 .0 .1) (c .before .before .before .before .before .match .rest .0 .0 .0 .0 .0 .0 .0 .0 .0 .0 .0 .0 .0 .0 .1) (c .before .before .before .before .before .match .rest .0 .0 .0 .0 .0 .0 .0 .0 .0 .0 .0 .0 .0 .1) (c .before .before .before .before .before .match .rest .0 .0 .0 .0 .0 .0 .0 .0 .0 .0 .0 .0 .1) (c .before .before .before .before .before .match .rest .0 .0 .0 .0 .0 .0 .0 .0 .0 .0 .0 .1) (c .before .before .before .before .before .match .rest .0 .0 .0 .0 .0 .0 .0 .0 .0 .0 .1) (c .before .before .before .before .before .match .rest .0 .0 .0 .0 .0 .0 .0 .0 .0 .1) (c .before .before .before .before .before .match .rest .0 .0 .0 .0 .0 .0 .0 .0 .1) (c .before .before .before .before .before .match .rest .0 .0 .0 .0 .0 .0 .0 .1) (c .before .before .before .before .before .match .rest .0 .0 .0 .0 .0 .0 .1) (c .before .before .before .before .before .match .rest .0 .0 .0 .0 .0 .1) (c .before .before .before .before .before .match .rest .0 .0 .0 .0 .1) (c .before .before .before .before .before .match .rest .0 .0 .0 .1) (c .before .before .before .before .before .match .rest .0 .0 .1) (c .before .before .before .before .before .match .rest .0 .1) (c .before .before .before .before .before .match .rest .1)) (c .before .before .carv-exit-of .ensures) refl))  -- returns-24
+    (λ c. exit-read (last-code 23 _ (c .before .before .before .before .before .before .before .before .pre .0) (c .before .before .before .before .before .before .before .before .pre .1) (c .before .before .before .before .before .match .rest)) (c .before .before .carv-exit-of .ensures) refl))  -- returns-24

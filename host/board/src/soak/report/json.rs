@@ -1,9 +1,9 @@
 //! The report as JSON.
 
 use super::Report;
-use crate::soak::json::Json;
 use crate::soak::{Found, Limit, Options};
 use carv_compare::board::call::Op;
+use carv_text::json::Json;
 
 impl Report {
     /// The report as one JSON object, in one line.
@@ -33,7 +33,7 @@ impl Report {
             ("damaged", self.damaged_json()),
             ("differences", Json::Number(self.differences())),
             ("difference", self.difference_json()),
-            ("repeat", Json::text(self.repeating())),
+            ("repeat", Json::from(self.repeating())),
         ]);
         object.to_string()
     }
@@ -44,7 +44,7 @@ impl Report {
             let refused = refused.map(|(n, count)| (n.to_string(), Json::Number(count)));
             let counts = Json::object([
                 ("accepted", Json::Number(self.tally.of(*op, 0))),
-                ("refused", Json::Object(refused.collect())),
+                ("refused", Json::object(refused)),
             ]);
             (op.name(), counts)
         });
@@ -56,7 +56,7 @@ impl Report {
             Json::object([
                 ("number", Json::Number(refusal.number())),
                 ("calls", Json::Number(count)),
-                ("meaning", Json::text(refusal.meaning())),
+                ("meaning", Json::from(refusal.meaning())),
             ])
         });
         Json::List(refusals.collect())
@@ -91,14 +91,14 @@ impl Report {
     fn difference_json(&self) -> Json {
         match &self.difference {
             None => Json::Null,
-            Some(Found::Area(why)) => Json::object([("what", Json::text(why.as_str()))]),
+            Some(Found::Area(why)) => Json::object([("what", Json::from(why.as_str()))]),
             Some(Found::Calls(finding)) => {
                 let steps = finding
                     .steps
                     .iter()
-                    .map(|step| Json::text(step.to_string()));
+                    .map(|step| Json::from(step.to_string()));
                 Json::object([
-                    ("what", Json::text(finding.difference.as_str())),
+                    ("what", Json::from(finding.difference.as_str())),
                     ("calls", Json::List(steps.collect())),
                 ])
             }

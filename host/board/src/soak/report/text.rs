@@ -2,9 +2,9 @@
 
 use super::Report;
 use crate::damage;
-use crate::soak::text::{counted, grouped};
 use carv_compare::board::call::Op;
 use carv_compare::board::numbers;
+use carv_text::figures::{counted, grouped};
 use std::fmt;
 
 /// Answers that never came, of which so many are shown.

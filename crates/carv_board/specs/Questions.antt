@@ -1,15 +1,17 @@
 -- The board's calls question by question: what each replies where the first question that is missed is this one, and where none is. Assumes nothing.
 use mathlib.Core.Path.{_≡_}
-use mathlib.Core.Bool.{Bool, true, false, _&&_}
+use mathlib.Core.Bool.{Bool, true, false, cond, _&&_}
 use mathlib.Core.Option.{none, some}
+use mathlib.Core.List.{List}
 use Prim.Native.Nat.{ℕ, _≤_, _<_}
 use lib.Dec.{eqb}
 use lib.ListN.{length}
 use borrow.Author.Tests.{eq-eqb, ne-eqb, lt-ltb, le-ltb}
-use Rattle.carv_area.specs.Table.{alter, put}
+use Rattle.carv_area.specs.Table.{Row, alter, erase, put}
 use Rattle.carv_registry.specs.Reply.{refuse, accept}
 use Rattle.carv_board.specs.declared.Context.{Context}
-use Rattle.carv_board.specs.Scheduler.{Board, idle, inactive, running, blocked, is, wait, wait-listed, payer, in-space, fresh, thread, has, become, started, with-threads, join, is-blocked, record-of, create-user-thread, start, block-current, is-blocked-on, read-thread}
+use Rattle.carv_board.specs.declared.Thread.{Thread}
+use Rattle.carv_board.specs.Scheduler.{Board, idle, inactive, running, blocked, is, wait, wait-listed, payer, in-space, fresh, thread, has, become, started, with-threads, join, is-blocked, record-of, create-user-thread, start, block-current, is-blocked-on, read-thread, dead, no-wait, wait-of, ended, without, logged, cause-listed, kill}
 
 module _ (i budget : ℕ) (stack : Bool) (b : Board) where
   pub create-known : has (b .threads) i ≡ true → create-user-thread i budget stack b ≡ refuse 5 b
@@ -81,3 +83,29 @@ module _ (i : ℕ) (b : Board) where
 
   pub read-done : has (b .threads) i ≡ true → read-thread i b ≡ accept (some (record-of (thread (b .threads) i))) b b
   read-done h = rw h
+
+-- the threads after the end of thread i
+abbrev pub killed : ℕ → Board → List (Row Thread)
+killed i b = cond (eqb i (b .current)) (alter i (become dead no-wait) (b .threads)) (erase i (b .threads))
+
+-- `kill`, question by question.
+module _ (x cause : ℕ) (b : Board) where
+  pub kill-unlisted : cause-listed cause ≡ false → kill x cause b ≡ refuse 4 b
+  kill-unlisted c = rw c
+
+  pub kill-idle : cause-listed cause ≡ true → x ≡ idle → kill x cause b ≡ refuse 5 b
+  kill-idle c n = rw (c, eq-eqb x idle n)
+
+  module _ (c : cause-listed cause ≡ true) (n : x ≡ idle → ⊥) where
+    pub kill-missing : has (b .threads) x ≡ false → kill x cause b ≡ refuse 7 b
+    kill-missing h = rw (c, ne-eqb x idle n, h)
+
+    pub kill-done : has (b .threads) x ≡ true → kill x cause b ≡ accept (some (ended (wait-of (thread (b .threads) x)))) (record {
+      registry = b .registry;
+      threads = killed x b;
+      queue = without x (b .queue);
+      current = b .current;
+      switches = b .switches;
+      exits = logged (record { thread = x; cause = cause }) (b .exits);
+    }) b
+    kill-done h = rw (c, ne-eqb x idle n, h)

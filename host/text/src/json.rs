@@ -2,27 +2,30 @@
 
 use std::fmt;
 
-/// A JSON value. Numbers are whole and below 2^64.
-#[derive(Clone, Debug, PartialEq, Eq)]
+/// A JSON value.
+#[derive(Clone, Debug, PartialEq)]
 pub enum Json {
     /// `null`.
     Null,
     /// `true` or `false`.
     Flag(bool),
-    /// A number.
+    /// A whole number.
     Number(u64),
+    /// A number with three digits behind the point.
+    Real(f64),
     /// A string.
     Text(String),
     /// An array.
     List(Vec<Json>),
     /// An object, its fields in this order.
-    Object(Vec<(&'static str, Json)>),
+    Object(Vec<(String, Json)>),
 }
 
 impl Json {
     /// An object with these fields.
-    pub fn object<const COUNT: usize>(fields: [(&'static str, Json); COUNT]) -> Self {
-        Self::Object(fields.into())
+    pub fn object<N: Into<String>>(fields: impl IntoIterator<Item = (N, Self)>) -> Self {
+        let fields = fields.into_iter();
+        Self::Object(fields.map(|(name, value)| (name.into(), value)).collect())
     }
 
     /// An array of what these become.
@@ -73,6 +76,7 @@ impl fmt::Display for Json {
             Self::Null => f.write_str("null"),
             Self::Flag(flag) => write!(f, "{flag}"),
             Self::Number(number) => write!(f, "{number}"),
+            Self::Real(number) => write!(f, "{number:.3}"),
             Self::Text(text) => string(f, text),
             Self::List(values) => {
                 f.write_str("[")?;
@@ -126,10 +130,10 @@ mod tests {
             ("flag", true.into()),
             ("most", u64::MAX.into()),
             ("list", Json::list([1_u64, 2])),
-            ("empty", Json::object([])),
+            ("half", Json::Real(0.5)),
+            ("empty", Json::object::<String>([])),
         ]);
-        let text =
-            r#"{"none":null,"flag":true,"most":18446744073709551615,"list":[1,2],"empty":{}}"#;
+        let text = r#"{"none":null,"flag":true,"most":18446744073709551615,"list":[1,2],"half":0.500,"empty":{}}"#;
         assert_eq!(value.to_string(), text);
     }
 

@@ -1,6 +1,7 @@
 //! Numbers and lines as text.
 
-use carv::TICK_NS;
+/// Nanoseconds in a ms.
+const MS: u64 = 1_000_000;
 
 /// A number with a comma before every three digits.
 pub fn grouped(number: u64) -> String {
@@ -17,12 +18,35 @@ pub fn grouped(number: u64) -> String {
 
 /// A time in ms, exact, with as many decimals as it needs.
 pub fn ms(ns: u64) -> String {
-    let whole = grouped(ns / TICK_NS);
-    let decimals = format!("{:06}", ns % TICK_NS);
+    let whole = grouped(ns / MS);
+    let decimals = format!("{:06}", ns % MS);
     match decimals.trim_end_matches('0') {
         "" => whole,
         decimals => format!("{whole}.{decimals}"),
     }
+}
+
+/// So many of something, whose name gets an s but for one.
+pub fn counted(number: u64, name: &str) -> String {
+    let s = if number == 1 { "" } else { "s" };
+    format!("{} {name}{s}", grouped(number))
+}
+
+/// Three digits or so, and k, M or G for the rest.
+pub fn short(number: u64) -> String {
+    let (unit, letter) = match number {
+        0..1_000 => return number.to_string(),
+        1_000..1_000_000 => (1e3, "k"),
+        1_000_000..1_000_000_000 => (1e6, "M"),
+        _ => (1e9, "G"),
+    };
+    let figure = number as f64 / unit;
+    let digits = if figure < 10.0 {
+        2
+    } else {
+        usize::from(figure < 100.0)
+    };
+    format!("{figure:.digits$}{letter}")
 }
 
 /// A text in lines of at most this many characters; a longer word has a line of its own.
@@ -75,6 +99,16 @@ mod tests {
         assert_eq!(ms(4_000_000), "4");
         assert_eq!(ms(1_234_300_000), "1,234.3");
         assert_eq!(ms(1), "0.000001");
+        assert_eq!(ms(u64::MAX), "18,446,744,073,709.551615");
+        assert_eq!(
+            [7, 1_234, 65_432, 2_340_000].map(short),
+            ["7", "1.23k", "65.4k", "2.34M"]
+        );
+        assert_eq!(short(123_400_000_000), "123G");
+        assert_eq!(
+            [1, 2_000].map(|n| counted(n, "call")),
+            ["1 call", "2,000 calls"]
+        );
     }
 
     #[test]
