@@ -12,6 +12,8 @@ use std::ops::RangeInclusive;
 pub struct Watch {
     trace: Trace,
     tick: Option<u64>,
+    /// Refusals before the first tick.
+    early: Vec<String>,
     calls: u64,
 }
 
@@ -23,6 +25,7 @@ impl Watch {
         Self {
             trace,
             tick: None,
+            early: Vec::new(),
             calls: 0,
         }
     }
@@ -32,7 +35,7 @@ impl Watch {
         self.trace.name(ObjectId(id), name);
     }
 
-    /// Makes a call and notes what it shows. What happens before the first tick is no event.
+    /// Makes a call and notes what it shows. What is accepted before the first tick is no event.
     pub fn make(
         &mut self,
         call: &Call,
@@ -47,8 +50,15 @@ impl Watch {
         if let (Some(before), Ok(_), [n]) = (before, &made, call.arguments()) {
             self.trace.tick(*n, &before, board);
             self.tick = Some(*n);
-        } else if let (Some(n), Some(text)) = (self.tick, event(call, &made, end, names)) {
-            self.trace.event(n, text);
+            for text in self.early.drain(..) {
+                self.trace.event(*n, text);
+            }
+        } else if let Some(text) = event(call, &made, end, names) {
+            match self.tick {
+                Some(n) => self.trace.event(n, text),
+                None if made.is_err() => self.early.push(text),
+                None => {}
+            }
         }
         made
     }

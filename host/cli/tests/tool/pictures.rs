@@ -23,6 +23,7 @@ fn a_picture_is_drawn() {
         assert!(picture.contains(part), "{part}");
     }
     for event in [
+        "create_budget root 5000000 0 0: refused with 12",
         "thread 5 of budget 3 (bag printer) is killed",
         "remove 3: refused with 10",
         "budget 3 (bag printer) is removed",
@@ -31,8 +32,8 @@ fn a_picture_is_drawn() {
     }
     assert!(!picture.contains("5 is removed"), "only budgets are told");
     assert!(
-        !picture.contains("create_budget"),
-        "what is before the first tick is no event"
+        !picture.contains("carved out of"),
+        "what is accepted before the first tick is no event"
     );
 }
 
