@@ -77,7 +77,7 @@ def entry(name, params, definition, module, reading, comment):
     answers = '== %s\nuse Rattle.carv_scheduler.specs.Entry.{entry-refused, entry-sound, entry-served}\n' % name
     served = '@%s .ensures' % place
     if module == REGISTRY:
-        answers += 'use Rattle.carv_scheduler.specs.OnRegistry.{registry-serves}\nuse Rattle.carv_registry.specs.Registry.{%s}\n' % definition
+        answers += 'use Rattle.carv_scheduler.specs.OnRegistry.{registry-serves}\nuse Rattle.carv_objects_spec.specs.Registry.{%s}\n' % definition
         served = 'registry-serves (%s) _ _ _ (%s)' % (' '.join([definition] + ['%' + n for n in names]), served)
     answers += 'returns := entry-refused _ _ _ (@is-sound .ensures) (@if1 .taken)\n'
     answers += '%s-requires := entry-sound _ _ (@is-sound .ensures) (@if1 .left)\n' % place

@@ -9,25 +9,25 @@ use lib.Seq.{sets}
 use Rattle.carv_budget.specs.declared.Account.{Account}
 use Rattle.carv_objects.specs.declared.Answer as registry
 use Rattle.carv_objects.specs.declared.Answer.the-variants as registry-answer
-use Rattle.carv_board.specs.declared.Thread.{Thread}
+use Rattle.carv_scheduler_spec.specs.declared.Thread.{Thread}
 use Rattle.carv_scheduler.specs.declared.Answer.{Answer}
-use Rattle.carv_scheduler.specs.declared.Answer.the-variants.{Done, Registry, NoSwitch, Switch, SwitchToKernel, Ended, EndedNothing, Blocked, NotBlocked, Record, Figure, Cause, NoCause, Refused}
+use Rattle.carv_scheduler.specs.declared.Answer.the-variants.{Done, Registry, NoSwitch, Switch, SwitchToKernel, Ended, EndedNothing, Blocked, NotBlocked, Record, Word, Cause, NoCause, Refused}
 use Rattle.carv_scheduler.specs.Answer.{number}
-use Rattle.carv_board.specs.Scheduler.{Board, Answers}
-use Rattle.carv_board.specs.Book.{Call}
-use Rattle.carv_board.specs.Runs.{run}
+use Rattle.carv_scheduler_spec.specs.Scheduler.{Board, BoardReply}
+use Rattle.carv_scheduler_spec.specs.Book.{Call}
+use Rattle.carv_scheduler_spec.specs.Runs.{run}
 use Rattle.carv_scheduler.specs.Area.{Answered, Opened}
 use Rattle.carv_scheduler.specs.Creating.{Created}
 
--- the figures of an account
-abbrev pub figures : Account → List ℕ
-figures a =
+-- the words of an account
+abbrev pub account-words : Account → List ℕ
+account-words a =
     a .«cpu_allowance» ∷ a .«memory_limit» ∷ a .«period_start» ∷ a .«cpu_left» ∷ a .«cpu_reserved» ∷ a .«memory_used» ∷ a .«memory_reserved» ∷ []
 
 -- the words of a thread record
 abbrev pub record-words : Thread → List ℕ
 record-words t =
-    t .state ∷ t .wait .kind ∷ t .wait .number ∷ t .budget .is ∷ t .budget .id ∷ t .place .is ∷ t .place .space ∷ t .place .cspace ∷ t .place .root
+    t .state ∷ t .wait .kind ∷ t .wait .number ∷ t .budget .is ∷ t .budget .id ∷ t .spaces .is ∷ t .spaces .space ∷ t .spaces .cspace ∷ t .spaces .root
     ∷ t .context .rip ∷ t .context .rsp ∷ t .context .rflags ∷ t .context .rdi ∷ t .context .rsi ∷ t .context .cs ∷ t .context .ss
     ∷ t .results .first ∷ t .results .second ∷ t .results .third ∷ t .ticks ∷ []
 
@@ -39,7 +39,7 @@ registry-reported registry-answer.Renewed out = set out 0 1
 registry-reported registry-answer.NotDue out = set out 0 0
 registry-reported registry-answer.Pays out = set out 0 1
 registry-reported registry-answer.PaysNothing out = set out 0 0
-registry-reported (registry-answer.Figures a) out = sets out 0 (figures a)
+registry-reported (registry-answer.AccountOf a) out = sets out 0 (account-words a)
 registry-reported (registry-answer.Charge p n) out = sets out 0 (p ∷ n ∷ [])
 registry-reported (registry-answer.Refused n) out = out
 
@@ -56,7 +56,7 @@ reported EndedNothing out = sets out 0 (0 ∷ 0 ∷ [])
 reported Blocked out = set out 0 1
 reported NotBlocked out = set out 0 0
 reported (Record t) out = sets out 0 (record-words t)
-reported (Figure n) out = set out 0 n
+reported (Word n) out = set out 0 n
 reported (Cause n) out = set out 0 n
 reported NoCause out = set out 0 0
 reported (Refused n) out = out
@@ -74,7 +74,7 @@ pub record Returns (says : Answer → List ℕ → Type 0) (a out : List ℕ) (r
   pub reports : eqb (length out) 20 ≡ true → Reports says out r a′ out′
 
 -- of a call, and of an opening
-abbrev pub Called : (Board → Answers) → (a out : List ℕ) (r : ℕ) (a′ out′ : List ℕ) → Type 0
+abbrev pub Called : (Board → BoardReply) → (a out : List ℕ) (r : ℕ) (a′ out′ : List ℕ) → Type 0
 Called call a = Returns (Answered call a) a
 
 abbrev pub Opens : (cpu memory : ℕ) (a out : List ℕ) (r : ℕ) (a′ out′ : List ℕ) → Type 0
@@ -87,7 +87,7 @@ abbrev pub Exported : Call → (a out : List ℕ) (r : ℕ) (a′ out′ : List 
 Exported c = Called (run c)
 
 -- `carv_create_user_thread`, which is lent a register image m as well: other than 20 answer words are refused with 1, and nothing changes
-pub record CreatesInC (call : Board → Answers) (a m out : List ℕ) (r : ℕ) (a′ m′ out′ : List ℕ) : Type 0 where
+pub record CreatesInC (call : Board → BoardReply) (a m out : List ℕ) (r : ℕ) (a′ m′ out′ : List ℕ) : Type 0 where
   pub size : eqb (length out) 20 ≡ false → (r ≡ 1) × (a′ ≡ a) × (m′ ≡ m) × (out′ ≡ out)
   pub reports : eqb (length out) 20 ≡ true → Reports (λ x b. Created call a m x b m′) out r a′ out′
 

@@ -1,4 +1,5 @@
--- The root of the crate's definitions. What a reader must believe, beside carv_board's and carv_scheduler's: C, and the statements of Demands, the file to open first.
+-- The root of the crate's definitions. What a reader must believe, beside those of the crates below: C, what a C function tells; Demands, the three demands and the file to
+-- open first. laws/ proves them.
 pub mod C
-pub mod Reporting
 pub mod Demands
+pub mod laws

@@ -1,28 +1,28 @@
 // The functions for C: the area and 20 answer words are lent, the number is returned, and the values of the answer stand in the
 // first answer words. specs/C.antt says which.
-use carv_board::Context;
-use carv_board::Results;
-use carv_board::Thread;
 use carv_budget::Account;
 use carv_scheduler::Answer;
+use carv_scheduler_spec::Context;
+use carv_scheduler_spec::Results;
+use carv_scheduler_spec::Thread;
 ghost use mathlib.Core.Path.{_≡_};
 ghost use lib.ListN.{length};
 ghost use lib.Seq.{sets};
 ghost use Rattle.carv_objects.specs.Answer as registry;
-ghost use Rattle.carv_registry.specs.Book as objects;
-ghost use Rattle.carv_board.specs.Book.{on-objects, create-user-thread, start, block-current, wake, is-blocked-on, kill, tick, plan, read-thread, read-current, read-switches, exit-of};
+ghost use Rattle.carv_objects_spec.specs.Book as objects;
+ghost use Rattle.carv_scheduler_spec.specs.Book.{on-objects, create-user-thread, start, block-current, wake, is-blocked-on, kill, tick, plan, read-thread, read-current, read-switches, exit-of};
 ghost use Rattle.carv_scheduler.specs.Answer.{number};
 ghost use Rattle.carv_scheduler.specs.Area.{sound-area};
 ghost use Rattle.carv_scheduler.specs.Image.{Filled};
-ghost use Rattle.carv.specs.C.{figures, record-words, registry-reported, reported, Exported, ExportedWithImage, Opens};
+ghost use Rattle.carv.specs.C.{account-words, record-words, registry-reported, reported, Exported, ExportedWithImage, Opens};
 
 // How many answer words there are.
 const WORDS: usize = 20;
 
-// The seven figures of an account in the answer words.
-fn write_figures(out: &mut [u64], a: Account)
+// An account in the answer words: its limits, start and line.
+fn write_account(out: &mut [u64], a: Account)
     requires { ⌜ length (now out) ≡ 20 ⌝ }
-    ensures { λ _. ⌜ now (out .exit) ≡ sets (now (out .entry)) 0 (figures a) ⌝ }
+    ensures { λ _. ⌜ now (out .exit) ≡ sets (now (out .entry)) 0 (account-words a) ⌝ }
 {
     out[0] = a.cpu_allowance;
     out[1] = a.memory_limit;
@@ -40,7 +40,7 @@ fn write_record(out: &mut [u64], t: Thread)
 {
     let wait = t.wait;
     let budget = t.budget;
-    let place = t.place;
+    let spaces = t.spaces;
     let context = t.context;
     let results = t.results;
     out[0] = t.state;
@@ -48,10 +48,10 @@ fn write_record(out: &mut [u64], t: Thread)
     out[2] = wait.number;
     out[3] = budget.is;
     out[4] = budget.id;
-    out[5] = place.is;
-    out[6] = place.space;
-    out[7] = place.cspace;
-    out[8] = place.root;
+    out[5] = spaces.is;
+    out[6] = spaces.space;
+    out[7] = spaces.cspace;
+    out[8] = spaces.root;
     out[9] = context.rip;
     out[10] = context.rsp;
     out[11] = context.rflags;
@@ -92,8 +92,8 @@ fn report_registry(answer: carv_objects::Answer, out: &mut [u64]) -> u64
             out[0] = 0;
             0
         }
-        carv_objects::Answer::Figures(account) => {
-            write_figures(out, account);
+        carv_objects::Answer::AccountOf(account) => {
+            write_account(out, account);
             0
         }
         carv_objects::Answer::Charge(payer, bytes) => {
@@ -154,7 +154,7 @@ fn report(answer: Answer, out: &mut [u64]) -> u64
             write_record(out, thread);
             0
         }
-        Answer::Figure(n) => {
+        Answer::Word(n) => {
             out[0] = n;
             0
         }

@@ -14,7 +14,7 @@ use Rattle.carv_budget.specs.declared.Answer.the-variants.{Done, CpuLimi
 use Rattle.carv_budget.specs.declared.Outcome.{Outcome}
 use Rattle.carv_budget.specs.declared.CarveOut.{CarveOut}
 use Rattle.carv_budget.specs.Account.{period, sound, fresh, blank, due, renew, free, spent, reserve, carved, returnable, outcome, carve-outcome}
-use Rattle.carv_budget.specs.Laws.{both, not-first, not-second, first, Sound, sound-told, Returnable, returnable-told, renew-sound, renew-not-due, renew-due}
+use Rattle.carv_budget.specs.laws.Account.{both, not-first, not-second, first, Sound, sound-told, Returnable, returnable-told, renew-sound, renew-not-due, renew-due}
 
 -- a question answered, and one missed
 pub asked : (X : Type 0) (b : Bool) (x k m : X) → b ≡ true → x ≡ k → x ≡ cond b k m

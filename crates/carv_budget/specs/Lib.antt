@@ -1,6 +1,6 @@
--- The root of the crate's definitions: document 01's accounts, the Rust's functions, 01's marked cases, and the laws that follow.
+-- The root of the crate's definitions. What a reader must believe: Account, document 01's accounts; Rust, the Rust's methods; Replies, the Rust's answers
+-- in 01's words. laws/ is what is proved of these.
 pub mod Account
 pub mod Rust
-pub mod Edges
-pub mod Laws
-pub mod Refines
+pub mod Replies
+pub mod laws

@@ -3,7 +3,7 @@ use mathlib.Core.Bool.{Bool, true, false, not, _&&_}
 use mathlib.Core.Path.{_≡_, sym, _∙_}
 use borrow.Author.Tests.{not-true, not-false, le-leb, lt-leb, eq-eqb, ne-eqb}
 use borrow.Author.Needs.{needs}
-use Rattle.carv_budget.specs.Laws.{both, not-first, not-second}
+use Rattle.carv_budget.specs.laws.Account.{both, not-first, not-second}
 
 pub turned : (a b : Bool) → a ≡ b → b ≡ a
 turned a b p = sym p

@@ -2,9 +2,9 @@
 use mathlib.Core.Bool.{true, false}
 use mathlib.Core.Option.{Option, none, some}
 use Prim.Native.Nat.{ℕ}
-use Rattle.carv_registry.specs.Reply.{Value, id, renewed, pays, figures, charge}
+use Rattle.carv_objects_spec.specs.Reply.{Value, id, renewed, pays, of-account, charge}
 use Rattle.carv_objects.specs.declared.Answer.{Answer}
-use Rattle.carv_objects.specs.declared.Answer.the-variants.{Done, Id, Renewed, NotDue, Pays, PaysNothing, Figures, Charge, Refused}
+use Rattle.carv_objects.specs.declared.Answer.the-variants.{Done, Id, Renewed, NotDue, Pays, PaysNothing, AccountOf, Charge, Refused}
 
 abbrev pub number : Answer → ℕ
 number Done = 0
@@ -13,7 +13,7 @@ number Renewed = 0
 number NotDue = 0
 number Pays = 0
 number PaysNothing = 0
-number (Figures a) = 0
+number (AccountOf a) = 0
 number (Charge p n) = 0
 number (Refused n) = n
 
@@ -24,6 +24,6 @@ value Renewed = some (renewed true)
 value NotDue = some (renewed false)
 value Pays = some (pays true)
 value PaysNothing = some (pays false)
-value (Figures a) = some (figures a)
+value (AccountOf a) = some (of-account a)
 value (Charge p n) = some (charge p n)
 value (Refused n) = none

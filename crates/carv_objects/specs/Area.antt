@@ -13,13 +13,13 @@ use Rattle.carv_area.specs.Words.{words}
 use Rattle.carv_area.specs.Parts.{part}
 use Rattle.carv_area.specs.Zero.{allZero}
 use Rattle.carv_budget.specs.Account.{period}
-use Rattle.carv_registry.specs.declared.Entry.{Entry}
+use Rattle.carv_objects_spec.specs.declared.Entry.{Entry}
 use Rattle.carv_objects.specs.declared.Answer.{Answer}
 use Rattle.carv_objects.specs.declared.Answer.the-variants.{Done, Refused}
-use Rattle.carv_registry.specs.Reply.{Reply}
+use Rattle.carv_objects_spec.specs.Reply.{Reply}
 use Rattle.carv_objects.specs.Answer.{number, value}
-use Rattle.carv_registry.specs.Registry.{Registry, Answers, opening, refill, has-cpu}
-use Rattle.carv_registry.specs.Sound.{sound}
+use Rattle.carv_objects_spec.specs.Registry.{Registry, RegistryReply, opening, refill, has-cpu}
+use Rattle.carv_objects_spec.specs.Sound.{sound}
 
 -- the first word, and the table behind it
 unfoldable pub head : List ℕ → List ℕ
@@ -73,18 +73,18 @@ pub record Is (a : List ℕ) (s : Registry) : Type 0 where
   pub same : decode a ≡ s
 
 -- What a call answers, r, and what it leaves, a′, of a sound area a.
-pub record Serves (call : Registry → Answers) (a : List ℕ) (r : Answer) (a′ : List ℕ) : Type 0 where
+pub record Serves (call : Registry → RegistryReply) (a : List ℕ) (r : Answer) (a′ : List ℕ) : Type 0 where
   pub number : number r ≡ call (decode a) .number
   pub value : value r ≡ call (decode a) .value
-  pub area : Is a′ (call (decode a) .now)
+  pub area : Is a′ (call (decode a) .after)
 
 -- A renewal of budget i, if it is live, and whether it has CPU left then.
 pub record Renews (i time : ℕ) (a : List ℕ) (r : Bool) (a′ : List ℕ) : Type 0 where
-  pub answer : r ≡ has-cpu (refill i time (decode a) .now) i
-  pub area : Is a′ (refill i time (decode a) .now)
+  pub answer : r ≡ has-cpu (refill i time (decode a) .after) i
+  pub area : Is a′ (refill i time (decode a) .after)
 
 -- What a call answers and leaves of any area: one that is not sound is refused with 1 and left as it came.
-pub record Answered (call : Registry → Answers) (a : List ℕ) (r : Answer) (a′ : List ℕ) : Type 0 where
+pub record Answered (call : Registry → RegistryReply) (a : List ℕ) (r : Answer) (a′ : List ℕ) : Type 0 where
   pub refused : sound-area a ≡ false → (r ≡ Refused 1) × (a′ ≡ a)
   pub served : sound-area a ≡ true → Serves call a r a′
 

@@ -1,19 +1,6 @@
--- The root of the crate's definitions. What a reader must believe, beside carv_registry's: Answer, Kinds, Area. The others are theorems on these.
+-- The root of the crate's definitions. What a reader must believe, beside carv_objects_spec's: Answer, numbers and values of the code's answers; Kinds, the kinds'
+-- codes; Area, what the bytes say and what an entry point ensures. laws/ serves the proofs.
 pub mod Answer
 pub mod Kinds
 pub mod Area
-pub mod Rows
-pub mod Formed
-pub mod AreaSteps
-pub mod AreaLaws
-pub mod SoundWalk
-pub mod SoundPlace
-pub mod SoundTurn
-pub mod SoundBridge
-pub mod AreaExact
-pub mod Booked
-pub mod Calls
-pub mod CallSteps
-pub mod Cpu
-pub mod Opening
-pub mod Entry
+pub mod laws

@@ -2,7 +2,7 @@
 use crate::rows;
 use carv_area::Found;
 use carv_budget::Account;
-use carv_registry::Entry;
+use carv_objects_spec::Entry;
 ghost use mathlib.Core.Path.{_≡_};
 ghost use mathlib.Core.Bool.{true, _&&_};
 ghost use mathlib.Core.List.{[], _∷_, _++_};
@@ -11,11 +11,11 @@ ghost use lib.ListN.{length, getD, set};
 ghost use Rattle.carv_area.specs.Table.{Rising};
 ghost use Rattle.carv_area.specs.Rows.{removeAt};
 ghost use Rattle.carv_area.specs.Lookup.{Located, Here};
-ghost use Rattle.carv_registry.specs.Registry.{has-place, has-next, budget, object, add};
+ghost use Rattle.carv_objects_spec.specs.Registry.{has-place, has-next, budget, object, add};
 ghost use Rattle.carv_objects.specs.Area.{decode};
-ghost use Rattle.carv_objects.specs.Rows.{row, no-row};
-ghost use Rattle.carv_objects.specs.Formed.{WellFormed, Leaves};
-ghost use Rattle.carv_objects.specs.AreaSteps.{with-next, with-rows, BudgetAt};
+ghost use Rattle.carv_objects.specs.laws.Rows.{row, no-row};
+ghost use Rattle.carv_objects.specs.laws.Formed.{WellFormed, Leaves};
+ghost use Rattle.carv_objects.specs.laws.AreaSteps.{with-next, with-rows, BudgetAt};
 
 // Where the table starts, and the length of the area.
 pub const TABLE: usize = 8;

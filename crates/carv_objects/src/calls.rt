@@ -8,7 +8,7 @@ use crate::accounts::Carved;
 use crate::area;
 use carv_area::Found;
 use carv_budget::Account;
-use carv_registry::Entry;
+use carv_objects_spec::Entry;
 ghost use mathlib.Core.Path.{_≡_};
 ghost use mathlib.Core.Bool.{true, not, _&&_, _||_};
 ghost use Prim.Native.Nat.{_≤_, _<_};
@@ -18,13 +18,13 @@ ghost use Rattle.carv_area.specs.Rows.{removeAt};
 ghost use Rattle.carv_area.specs.Lookup.{Here};
 ghost use Rattle.carv_budget.specs.Account.{sound, renew};
 ghost use Rattle.carv_objects.specs.declared.Answer.the-variants as answer;
-ghost use Rattle.carv_registry.specs.Registry.{has, object, pays-for, has-place, has-next, budget, add, drop, create, insert, create-budget, charge-more, uncharge, remove, refill, charge-cpu, pays-for-anything, read-account, charge-of};
+ghost use Rattle.carv_objects_spec.specs.Registry.{has, object, pays-for, has-place, has-next, budget, add, drop, create, insert, create-budget, charge-more, uncharge, remove, refill, charge-cpu, pays-for-anything, read-account, charge-of};
 ghost use Rattle.carv_objects.specs.Kinds.{kind-needs-backing};
-ghost use Rattle.carv_objects.specs.Booked.{renewal};
+ghost use Rattle.carv_objects.specs.laws.Booked.{renewal};
 ghost use Rattle.carv_objects.specs.Area.{decode, sound-area, Serves};
-ghost use Rattle.carv_objects.specs.Rows.{no-row};
-ghost use Rattle.carv_objects.specs.Formed.{WellFormed, Leaves};
-ghost use Rattle.carv_objects.specs.AreaSteps.{with-rows};
+ghost use Rattle.carv_objects.specs.laws.Rows.{no-row};
+ghost use Rattle.carv_objects.specs.laws.Formed.{WellFormed, Leaves};
+ghost use Rattle.carv_objects.specs.laws.AreaSteps.{with-rows};
 
 // The code of Kind::Budget, and the id of the root budget.
 const BUDGET: u64 = 6;
@@ -238,7 +238,7 @@ pub fn account(a: &[u8], id: u64) -> Answer
         return Answer::Refused(7);
     };
     let account = account_at(a, i);
-    Answer::Figures(account)
+    Answer::AccountOf(account)
 }
 
 // The payer and the charge of an object.

@@ -5,7 +5,7 @@ use crate::calls;
 use carv_area::Found;
 ghost use mathlib.Core.Path.{_≡_};
 ghost use mathlib.Core.Bool.{true};
-ghost use Rattle.carv_registry.specs.Registry.{charge-most};
+ghost use Rattle.carv_objects_spec.specs.Registry.{charge-most};
 ghost use Rattle.carv_objects.specs.Area.{decode, sound-area, Is, Renews};
 
 // Renews the budget id, if it is live. Has it CPU left then?

@@ -1,6 +1,6 @@
 // The kinds of objects, of carv-abi, with the bytes that each is charged.
 ghost use mathlib.Core.Path.{_≡_};
-ghost use Rattle.carv_registry.specs.Registry.{listed};
+ghost use Rattle.carv_objects_spec.specs.Registry.{listed};
 ghost use Rattle.carv_objects.specs.Kinds.{code, kind-bytes, kind-creatable, kind-needs-backing, Named};
 
 pub enum Kind {

@@ -14,7 +14,7 @@ pub use kinds::Kind;
 pub use kinds::KindCode;
 pub use opening::open;
 pub use sound::is_sound;
-ghost use Rattle.carv_registry.specs.Registry.{create, insert, create-budget, charge-more, uncharge, remove, refill, charge-cpu, pays-for-anything, read-account, charge-of};
+ghost use Rattle.carv_objects_spec.specs.Registry.{create, insert, create-budget, charge-more, uncharge, remove, refill, charge-cpu, pays-for-anything, read-account, charge-of};
 ghost use Rattle.carv_objects.specs.Area.{Answered, Opened};
 
 // What a call answers: specs/Answer.antt gives document 01's number and the values.
@@ -25,7 +25,7 @@ pub enum Answer {
     NotDue,
     Pays,
     PaysNothing,
-    Figures(Account),
+    AccountOf(Account),
     Charge(u64, u64),
     Refused(u64),
 }

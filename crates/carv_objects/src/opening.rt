@@ -5,15 +5,15 @@ use crate::accounts::Booked;
 use crate::area;
 use crate::rows;
 use carv_budget::Account;
-use carv_registry::Entry;
+use carv_objects_spec::Entry;
 ghost use mathlib.Core.Path.{_≡_};
 ghost use mathlib.Core.List.{[], _∷_};
 ghost use lib.ListN.{length};
 ghost use Rattle.carv_area.specs.Stored.{Stored};
 ghost use Rattle.carv_objects.specs.Area.{table, fields, decode, Opened};
-ghost use Rattle.carv_objects.specs.Rows.{row};
-ghost use Rattle.carv_objects.specs.Formed.{Formed};
-ghost use Rattle.carv_objects.specs.Opening.{rooted};
+ghost use Rattle.carv_objects.specs.laws.Rows.{row};
+ghost use Rattle.carv_objects.specs.laws.Formed.{Formed};
+ghost use Rattle.carv_objects.specs.laws.Opening.{rooted};
 
 // The code of Kind::Budget, and the id of the root budget.
 const BUDGET: u64 = 6;

@@ -1,6 +1,6 @@
 // The registry's table: one object in each row of 11 words.
 use carv_budget::Account;
-use carv_registry::Entry;
+use carv_objects_spec::Entry;
 ghost use mathlib.Core.Path.{_≡_};
 ghost use mathlib.Core.List.{[], _∷_, _++_};
 ghost use Prim.Native.Nat.{_+_, _*_, _≤_, _<_};
@@ -8,7 +8,7 @@ ghost use lib.ListN.{length, getD};
 ghost use Rattle.carv_area.specs.Words.{words};
 ghost use Rattle.carv_area.specs.Stored.{Stored};
 ghost use Rattle.carv_objects.specs.Area.{fields, row-at, rows-in};
-ghost use Rattle.carv_objects.specs.Rows.{row, set-account, set-row};
+ghost use Rattle.carv_objects.specs.laws.Rows.{row, set-account, set-row};
 
 // The entry at place i of the table t.
 pub fn read_entry(t: &[u8], i: usize) -> Entry

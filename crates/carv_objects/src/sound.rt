@@ -8,10 +8,10 @@ ghost use lib.ListN.{length, getD};
 ghost use Rattle.carv_area.specs.Words.{words};
 ghost use Rattle.carv_area.specs.Zero.{allZero};
 ghost use Rattle.carv_objects.specs.Area.{decode, sound-area};
-ghost use Rattle.carv_objects.specs.SoundWalk.{Tells, entry-at, Plain, Rise, Place, Owner, Front, Walk, Whole, Turned, Took, ReservedFor, SoundTable};
+ghost use Rattle.carv_objects.specs.laws.SoundWalk.{Tells, entry-at, Plain, Rise, Place, Owner, Front, Walk, Whole, Turned, Took, ReservedFor, SoundTable};
 use crate::kinds::Kind;
 use carv_budget::Account;
-use carv_registry::Entry;
+use carv_objects_spec::Entry;
 
 // The entry at place i of the table t.
 fn entry_at(t: &[u8], i: usize) -> Entry

@@ -4,8 +4,8 @@ use mathlib.Core.Option.{Option, none, some}
 use Prim.Native.Nat.{ℕ}
 use Rattle.carv_objects.specs.Answer as objects
 use Rattle.carv_scheduler.specs.declared.Answer.{Answer}
-use Rattle.carv_scheduler.specs.declared.Answer.the-variants.{Done, Registry, NoSwitch, Switch, SwitchToKernel, Ended, EndedNothing, Blocked, NotBlocked, Record, Figure, Cause, NoCause, Refused}
-use Rattle.carv_board.specs.Scheduler.{Value, no-switch, switch, ended, is-blocked, record-of, figure, exit-cause, lift-value}
+use Rattle.carv_scheduler.specs.declared.Answer.the-variants.{Done, Registry, NoSwitch, Switch, SwitchToKernel, Ended, EndedNothing, Blocked, NotBlocked, Record, Word, Cause, NoCause, Refused}
+use Rattle.carv_scheduler_spec.specs.Scheduler.{Value, no-switch, switch, ended, is-blocked, record-of, word, exit-cause, lift-value}
 
 abbrev pub number : Answer → ℕ
 number Done = 0
@@ -18,7 +18,7 @@ number EndedNothing = 0
 number Blocked = 0
 number NotBlocked = 0
 number (Record t) = 0
-number (Figure n) = 0
+number (Word n) = 0
 number (Cause n) = 0
 number NoCause = 0
 number (Refused n) = n
@@ -34,7 +34,7 @@ value EndedNothing = some (ended none)
 value Blocked = some (is-blocked true)
 value NotBlocked = some (is-blocked false)
 value (Record t) = some (record-of t)
-value (Figure n) = some (figure n)
+value (Word n) = some (word n)
 value (Cause n) = some (exit-cause (some n))
 value NoCause = some (exit-cause none)
 value (Refused n) = none

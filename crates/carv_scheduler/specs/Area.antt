@@ -14,18 +14,18 @@ use Rattle.carv_area.specs.Keys.{keys}
 use Rattle.carv_area.specs.Zero.{allZero}
 use Rattle.carv_budget.specs.Account.{period}
 use Rattle.carv_objects.specs.Area as objects
-use Rattle.carv_board.specs.declared.Wait.{Wait}
-use Rattle.carv_board.specs.declared.Payer.{Payer}
-use Rattle.carv_board.specs.declared.Space.{Space}
-use Rattle.carv_board.specs.declared.Context.{Context}
-use Rattle.carv_board.specs.declared.Results.{Results}
-use Rattle.carv_board.specs.declared.Thread.{Thread}
-use Rattle.carv_board.specs.declared.Exit.{Exit}
+use Rattle.carv_scheduler_spec.specs.declared.Wait.{Wait}
+use Rattle.carv_scheduler_spec.specs.declared.BudgetId.{BudgetId}
+use Rattle.carv_scheduler_spec.specs.declared.Spaces.{Spaces}
+use Rattle.carv_scheduler_spec.specs.declared.Context.{Context}
+use Rattle.carv_scheduler_spec.specs.declared.Results.{Results}
+use Rattle.carv_scheduler_spec.specs.declared.Thread.{Thread}
+use Rattle.carv_scheduler_spec.specs.declared.Exit.{Exit}
 use Rattle.carv_scheduler.specs.declared.Answer.{Answer}
 use Rattle.carv_scheduler.specs.declared.Answer.the-variants.{Done, Refused}
 use Rattle.carv_scheduler.specs.Answer.{number, value}
-use Rattle.carv_board.specs.Scheduler.{Board, Answers, opening}
-use Rattle.carv_board.specs.Sound.{sound}
+use Rattle.carv_scheduler_spec.specs.Scheduler.{Board, BoardReply, opening}
+use Rattle.carv_scheduler_spec.specs.Sound.{sound}
 
 -- The parts.
 
@@ -49,11 +49,11 @@ exits-part a = part 67_624 520 a
 abbrev pub wait-at : List ℕ → ℕ → Wait
 wait-at l o = record { kind = getD l o 0; number = getD l (o + 1) 0 }
 
-abbrev pub payer-at : List ℕ → ℕ → Payer
-payer-at l o = record { is = getD l o 0; id = getD l (o + 1) 0 }
+abbrev pub budget-id-at : List ℕ → ℕ → BudgetId
+budget-id-at l o = record { is = getD l o 0; id = getD l (o + 1) 0 }
 
-abbrev pub space-at : List ℕ → ℕ → Space
-space-at l o = record { is = getD l o 0; space = getD l (o + 1) 0; cspace = getD l (o + 2) 0; root = getD l (o + 3) 0 }
+abbrev pub spaces-at : List ℕ → ℕ → Spaces
+spaces-at l o = record { is = getD l o 0; space = getD l (o + 1) 0; cspace = getD l (o + 2) 0; root = getD l (o + 3) 0 }
 
 abbrev pub context-at : List ℕ → ℕ → Context
 context-at l o = record {
@@ -75,8 +75,8 @@ thread-at l i = record {
   it = record {
     state = getD l (i * 21 + 2) 0;
     wait = wait-at l (i * 21 + 3);
-    budget = payer-at l (i * 21 + 5);
-    place = space-at l (i * 21 + 7);
+    budget = budget-id-at l (i * 21 + 5);
+    spaces = spaces-at l (i * 21 + 7);
     context = context-at l (i * 21 + 11);
     results = results-at l (i * 21 + 18);
     ticks = getD l (i * 21 + 21) 0;
@@ -86,7 +86,7 @@ thread-at l i = record {
 abbrev pub thread-fields : Row Thread → List ℕ
 thread-fields r =
     r .id ∷ r .it .state ∷ r .it .wait .kind ∷ r .it .wait .number ∷ r .it .budget .is ∷ r .it .budget .id
-    ∷ r .it .place .is ∷ r .it .place .space ∷ r .it .place .cspace ∷ r .it .place .root
+    ∷ r .it .spaces .is ∷ r .it .spaces .space ∷ r .it .spaces .cspace ∷ r .it .spaces .root
     ∷ r .it .context .rip ∷ r .it .context .rsp ∷ r .it .context .rflags ∷ r .it .context .rdi ∷ r .it .context .rsi ∷ r .it .context .cs ∷ r .it .context .ss
     ∷ r .it .results .first ∷ r .it .results .second ∷ r .it .results .third ∷ r .it .ticks ∷ []
 
@@ -136,13 +136,13 @@ pub record Is (a : List ℕ) (s : Board) : Type 0 where
   pub same : decode a ≡ s
 
 -- What a call answers, r, and what it leaves, a′, of a sound area a.
-pub record Serves (call : Board → Answers) (a : List ℕ) (r : Answer) (a′ : List ℕ) : Type 0 where
+pub record Serves (call : Board → BoardReply) (a : List ℕ) (r : Answer) (a′ : List ℕ) : Type 0 where
   pub number : number r ≡ call (decode a) .number
   pub value : value r ≡ call (decode a) .value
-  pub area : Is a′ (call (decode a) .now)
+  pub area : Is a′ (call (decode a) .after)
 
 -- The same of any area: one that is not sound is refused with 1 and left as it came.
-pub record Answered (call : Board → Answers) (a : List ℕ) (r : Answer) (a′ : List ℕ) : Type 0 where
+pub record Answered (call : Board → BoardReply) (a : List ℕ) (r : Answer) (a′ : List ℕ) : Type 0 where
   pub refused : sound-area a ≡ false → (r ≡ Refused 1) × (a′ ≡ a)
   pub served : sound-area a ≡ true → Serves call a r a′
 

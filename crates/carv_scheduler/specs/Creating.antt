@@ -1,14 +1,13 @@
 -- `create_user_thread` with its register image: "An accepted creation fills the lent area". Assumes nothing.
-use mathlib.Core.Path.{_≡_, refl, _∙_}
+use mathlib.Core.Path.{_≡_}
 use mathlib.Core.Bool.{Bool, true, false, cond}
 use mathlib.Core.List.{List}
 use Prim.Native.Nat.{ℕ}
 use lib.Dec.{eqb}
 use lib.ListN.{length}
-use borrow.Author.Tests.{eqb-true, eqb-false}
 use Rattle.carv_scheduler.specs.declared.Answer.{Answer}
-use Rattle.carv_scheduler.specs.declared.Answer.the-variants.{Done, Registry, NoSwitch, Switch, SwitchToKernel, Ended, EndedNothing, Blocked, NotBlocked, Record, Figure, Cause, NoCause, Refused}
-use Rattle.carv_board.specs.Scheduler.{Board, Answers}
+use Rattle.carv_scheduler.specs.declared.Answer.the-variants.{Done, Registry, NoSwitch, Switch, SwitchToKernel, Ended, EndedNothing, Blocked, NotBlocked, Record, Word, Cause, NoCause, Refused}
+use Rattle.carv_scheduler_spec.specs.Scheduler.{Board, BoardReply}
 use Rattle.carv_scheduler.specs.Area.{Answered}
 use Rattle.carv_scheduler.specs.Image.{image-size, register-image}
 use Rattle.carv_scheduler.specs.Answer.{number}
@@ -24,7 +23,7 @@ done EndedNothing = false
 done Blocked = false
 done NotBlocked = false
 done (Record t) = false
-done (Figure n) = false
+done (Word n) = false
 done (Cause n) = false
 done NoCause = false
 done (Refused n) = false
@@ -35,18 +34,7 @@ Plain r = done r ≡ eqb (number r) 0
 
 -- What the call answers, r, and leaves, a′ and m′, of the area a and the image m: another length of the image is refused with 1, and nothing changes; else the area goes
 -- by the call, and the image is filled if that was accepted
-pub record Created (call : Board → Answers) (a m : List ℕ) (r : Answer) (a′ m′ : List ℕ) : Type 0 where
+pub record Created (call : Board → BoardReply) (a m : List ℕ) (r : Answer) (a′ m′ : List ℕ) : Type 0 where
   pub size : eqb (length m) image-size ≡ false → (r ≡ Refused 1) × (a′ ≡ a) × (m′ ≡ m)
   pub served : eqb (length m) image-size ≡ true → Answered call a r a′
   pub image : eqb (length m) image-size ≡ true → m′ ≡ cond (eqb (number r) 0) register-image m
-
-module _ (call : Board → Answers) (a m : List ℕ) where
-  pub created-size : (length m ≡ 512 → ⊥) → Created call a m (Refused 1) a m
-  created-size n = record { size = λ q. (refl, refl, refl); served = λ q. absurd (n (eqb-true (length m) 512 q)); image = λ q. absurd (n (eqb-true (length m) 512 q)) }
-
-  module _ (e : length m ≡ 512) (r : Answer) (a′ : List ℕ) (h : Answered call a r a′) (g : Plain r) (d : Bool) (q : d ≡ done r) where
-    pub created-filled : d ≡ true → (m′ : List ℕ) → m′ ≡ register-image → Created call a m r a′ m′
-    created-filled y m′ f = record { size = λ z. absurd (eqb-false (length m) 512 z e); served = λ z. h; image = λ z. f ∙ rw (← g, ← q, y) }
-
-    pub created-refused : d ≡ false → Created call a m r a′ m
-    created-refused n = record { size = λ z. absurd (eqb-false (length m) 512 z e); served = λ z. h; image = λ z. rw (← g, ← q, n) }

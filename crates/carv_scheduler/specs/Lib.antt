@@ -1,34 +1,8 @@
--- The root of the crate's definitions. What a reader must believe, beside carv_board's: Answer, Area, Creating, Image, ExitRun. The others are theorems on these.
+-- The root of the crate's definitions. What a reader must believe, beside carv_scheduler_spec's: Answer, numbers and values of the code's answers; Area, what the bytes
+-- say and what an entry point ensures; Creating and Image, the register image; ExitRun, lent exits. laws/ serves the proofs.
 pub mod Answer
 pub mod Area
-pub mod Rows
-pub mod Formed
-pub mod AreaSteps
-pub mod Room
-pub mod AreaLaws
-pub mod AreaExact
-pub mod Calls
-pub mod RowWords
-pub mod Places
-pub mod CallSteps
-pub mod OnRegistry
-pub mod Entry
-pub mod Opening
-pub mod Waking
-pub mod Ticking
-pub mod Walk
-pub mod Planning
-pub mod PlanSteps
-pub mod ExitSteps
-pub mod KillSteps
-pub mod Image
-pub mod ImageSteps
-pub mod ExitRun
-pub mod SoundWalk
-pub mod SoundThread
-pub mod SoundRows
-pub mod SoundStates
-pub mod SoundQueue
-pub mod SoundLog
-pub mod SoundBridge
 pub mod Creating
+pub mod Image
+pub mod ExitRun
+pub mod laws

@@ -1,9 +1,9 @@
 // The board's area: its parts, each lent to one function of carv_area or of the rows. docs/LAYOUT.md has the layout.
 use crate::rows;
 use carv_area::Found;
-use carv_board::Results;
-use carv_board::Thread;
-use carv_board::Wait;
+use carv_scheduler_spec::Results;
+use carv_scheduler_spec::Thread;
+use carv_scheduler_spec::Wait;
 ghost use mathlib.Core.Path.{_≡_};
 ghost use mathlib.Core.List.{[], _∷_, _++_};
 ghost use Prim.Native.Nat.{_<_};
@@ -11,12 +11,12 @@ ghost use lib.ListN.{length, getD, set};
 ghost use Rattle.carv_area.specs.Table.{put};
 ghost use Rattle.carv_area.specs.Rows.{removeAt};
 ghost use Rattle.carv_area.specs.Lookup.{Located};
-ghost use Rattle.carv_board.specs.Scheduler.{woken, ticked};
+ghost use Rattle.carv_scheduler_spec.specs.Scheduler.{woken, ticked};
 ghost use Rattle.carv_scheduler.specs.Area.{thread-fields, decode};
-ghost use Rattle.carv_scheduler.specs.Rows.{row, no-row};
-ghost use Rattle.carv_scheduler.specs.Formed.{WellFormed, Leaves};
-ghost use Rattle.carv_scheduler.specs.RowWords.{with-state};
-ghost use Rattle.carv_scheduler.specs.AreaSteps.{with-head, with-threads, with-queue, Placed, New};
+ghost use Rattle.carv_scheduler.specs.laws.Rows.{row, no-row};
+ghost use Rattle.carv_scheduler.specs.laws.Formed.{WellFormed, Leaves};
+ghost use Rattle.carv_scheduler.specs.laws.RowWords.{with-state};
+ghost use Rattle.carv_scheduler.specs.laws.AreaSteps.{with-head, with-threads, with-queue, Placed, New};
 
 // Where the parts start, behind the registry, and where the last one ends.
 pub const HEAD: usize = 45_072;

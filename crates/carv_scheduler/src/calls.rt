@@ -8,11 +8,11 @@ use crate::numbers::READY;
 use crate::numbers::RUNNING;
 use crate::rows;
 use carv_area::Found;
-use carv_board::Context;
-use carv_board::Payer;
-use carv_board::Space;
-use carv_board::Thread;
-use carv_board::Wait;
+use carv_scheduler_spec::BudgetId;
+use carv_scheduler_spec::Context;
+use carv_scheduler_spec::Spaces;
+use carv_scheduler_spec::Thread;
+use carv_scheduler_spec::Wait;
 ghost use mathlib.Core.Path.{_≡_};
 ghost use mathlib.Core.Bool.{true, _&&_};
 ghost use lib.Dec.{eqb};
@@ -20,11 +20,11 @@ ghost use Prim.Native.Nat.{_<_};
 ghost use lib.ListN.{length, getD};
 ghost use Rattle.carv_area.specs.Table.{alter};
 ghost use Rattle.carv_area.specs.Lookup.{Here};
-ghost use Rattle.carv_board.specs.Scheduler.{wait-listed, join, with-threads, is, blocked, has, create-user-thread, start, block-current, is-blocked-on, read-thread, read-current, read-switches};
+ghost use Rattle.carv_scheduler_spec.specs.Scheduler.{wait-listed, join, with-threads, is, blocked, has, create-user-thread, start, block-current, is-blocked-on, read-thread, read-current, read-switches};
 ghost use Rattle.carv_scheduler.specs.Area.{decode, sound-area, Serves};
 ghost use Rattle.carv_scheduler.specs.Creating.{Plain};
-ghost use Rattle.carv_scheduler.specs.Rows.{no-row};
-ghost use Rattle.carv_scheduler.specs.Formed.{WellFormed, Leaves};
+ghost use Rattle.carv_scheduler.specs.laws.Rows.{no-row};
+ghost use Rattle.carv_scheduler.specs.laws.Formed.{WellFormed, Leaves};
 
 // Is the kind one of the five that a thread can wait for?
 pub fn is_wait_listed(kind: u64) -> bool
@@ -72,7 +72,7 @@ pub fn create_user_thread(a: &mut [u8], id: u64, budget: u64, stack: bool) -> An
     area::insert_thread(
         a,
         id,
-        rows::fresh_thread(INACTIVE, Payer { is: 1, id: budget }),
+        rows::fresh_thread(INACTIVE, BudgetId { is: 1, id: budget }),
     );
     Answer::Done
 }
@@ -109,7 +109,7 @@ pub fn start(a: &mut [u8], id: u64, space: u64, cspace: u64, root: u64, context:
             state: READY,
             wait: Wait { kind: 0, number: 0 },
             budget,
-            place: Space {
+            spaces: Spaces {
                 is: 1,
                 space,
                 cspace,
@@ -207,7 +207,7 @@ pub fn current(a: &[u8]) -> Answer
     ensures { λ r. ⌜ Serves read-current (now (a .entry)) r (now (a .entry)) ⌝ }
 {
     let id = area::current(a);
-    Answer::Figure(id)
+    Answer::Word(id)
 }
 
 pub fn switches(a: &[u8]) -> Answer
@@ -215,5 +215,5 @@ pub fn switches(a: &[u8]) -> Answer
     ensures { λ r. ⌜ Serves read-switches (now (a .entry)) r (now (a .entry)) ⌝ }
 {
     let count = area::switches(a);
-    Answer::Figure(count)
+    Answer::Word(count)
 }

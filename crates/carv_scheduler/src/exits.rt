@@ -1,7 +1,7 @@
 // The exit log: ends of threads from the oldest, in rows of 2 words. It holds 32.
 use crate::Answer;
 use crate::area;
-use carv_board::Exit;
+use carv_scheduler_spec::Exit;
 ghost use mathlib.Core.Path.{_≡_};
 ghost use mathlib.Core.Bool.{true};
 ghost use mathlib.Core.List.{[], _∷_, _++_};
@@ -9,11 +9,11 @@ ghost use Prim.Native.Nat.{_+_, _*_, _≤_, _<_};
 ghost use lib.ListN.{length, getD, drop};
 ghost use Rattle.carv_area.specs.Words.{words};
 ghost use Rattle.carv_area.specs.Stored.{Stored};
-ghost use Rattle.carv_board.specs.Scheduler.{logged, exit-in, exit-of};
+ghost use Rattle.carv_scheduler_spec.specs.Scheduler.{logged, exit-in, exit-of};
 ghost use Rattle.carv_scheduler.specs.Area.{exit-fields, exit-at, exits-in, decode, sound-area, Serves};
-ghost use Rattle.carv_scheduler.specs.Rows.{no-exit};
-ghost use Rattle.carv_scheduler.specs.Formed.{WellFormed, Leaves};
-ghost use Rattle.carv_scheduler.specs.ExitSteps.{exit, with-exits, spared};
+ghost use Rattle.carv_scheduler.specs.laws.Rows.{no-exit};
+ghost use Rattle.carv_scheduler.specs.laws.Formed.{WellFormed, Leaves};
+ghost use Rattle.carv_scheduler.specs.laws.ExitSteps.{exit, with-exits, spared};
 ghost use Rattle.carv_scheduler.specs.ExitRun.{cause-of};
 
 // The exit at place i of the log t.

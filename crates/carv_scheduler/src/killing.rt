@@ -6,20 +6,20 @@ use crate::numbers::BLOCKED;
 use crate::numbers::DEAD;
 use crate::numbers::IDLE;
 use carv_area::Found;
-use carv_board::Thread;
-use carv_board::Wait;
+use carv_scheduler_spec::Thread;
+use carv_scheduler_spec::Wait;
 ghost use mathlib.Core.Path.{_≡_};
 ghost use mathlib.Core.Bool.{true};
 ghost use Rattle.carv_area.specs.Lookup.{Here};
 ghost use Rattle.carv_area.specs.Keys.{findIn};
-ghost use Rattle.carv_board.specs.Scheduler.{cause-listed, without, kill};
-ghost use Rattle.carv_board.specs.Sound.{distinct};
+ghost use Rattle.carv_scheduler_spec.specs.Scheduler.{cause-listed, without, kill};
+ghost use Rattle.carv_scheduler_spec.specs.Sound.{distinct};
 ghost use Rattle.carv_scheduler.specs.Area.{decode, sound-area, Serves};
-ghost use Rattle.carv_scheduler.specs.Rows.{no-row};
-ghost use Rattle.carv_scheduler.specs.Formed.{WellFormed, Leaves};
-ghost use Rattle.carv_scheduler.specs.AreaSteps.{with-threads, with-queue};
-ghost use Rattle.carv_board.specs.Questions.{killed};
-ghost use Rattle.carv_scheduler.specs.KillSteps.{wait-answer};
+ghost use Rattle.carv_scheduler.specs.laws.Rows.{no-row};
+ghost use Rattle.carv_scheduler.specs.laws.Formed.{WellFormed, Leaves};
+ghost use Rattle.carv_scheduler.specs.laws.AreaSteps.{with-threads, with-queue};
+ghost use Rattle.carv_scheduler_spec.specs.laws.Questions.{killed};
+ghost use Rattle.carv_scheduler.specs.laws.KillSteps.{wait-answer};
 
 // Is the cause Destroyed or Faulted?
 pub fn is_cause(cause: u64) -> bool

@@ -13,17 +13,17 @@ mod rows;
 mod sound;
 mod ticking;
 
-use carv_board::Context;
-use carv_board::Results;
-use carv_board::Thread;
-use carv_board::Wait;
+use carv_scheduler_spec::Context;
+use carv_scheduler_spec::Results;
+use carv_scheduler_spec::Thread;
+use carv_scheduler_spec::Wait;
 pub use exits::exit_in;
 pub use image::write_image;
 pub use opening::open;
 pub use sound::is_sound;
 ghost use mathlib.Core.Path.{_≡_};
-ghost use Rattle.carv_registry.specs.Registry.{create, insert, create-budget, charge-more, uncharge, remove, refill, charge-cpu, pays-for-anything, read-account, charge-of};
-ghost use Rattle.carv_board.specs.Scheduler.{by-registry, create-user-thread, start, block-current, wake, is-blocked-on, kill, tick, plan, read-thread, read-current, read-switches, exit-of};
+ghost use Rattle.carv_objects_spec.specs.Registry.{create, insert, create-budget, charge-more, uncharge, remove, refill, charge-cpu, pays-for-anything, read-account, charge-of};
+ghost use Rattle.carv_scheduler_spec.specs.Scheduler.{by-registry, create-user-thread, start, block-current, wake, is-blocked-on, kill, tick, plan, read-thread, read-current, read-switches, exit-of};
 ghost use Rattle.carv_scheduler.specs.Area.{Answered};
 ghost use Rattle.carv_scheduler.specs.Creating.{done, Plain, Created};
 
@@ -39,7 +39,7 @@ pub enum Answer {
     Blocked,
     NotBlocked,
     Record(Thread),
-    Figure(u64),
+    Word(u64),
     Cause(u64),
     NoCause,
     Refused(u64),
@@ -60,7 +60,7 @@ fn is_done(answer: Answer) -> bool
         Answer::Blocked => false,
         Answer::NotBlocked => false,
         Answer::Record(_) => false,
-        Answer::Figure(_) => false,
+        Answer::Word(_) => false,
         Answer::Cause(_) => false,
         Answer::NoCause => false,
         Answer::Refused(_) => false,

@@ -5,13 +5,13 @@ use crate::numbers::IDLE;
 use crate::numbers::READY;
 use crate::numbers::RUNNING;
 use crate::rows;
-use carv_board::Payer;
+use carv_scheduler_spec::BudgetId;
 ghost use mathlib.Core.Path.{_≡_};
 ghost use Prim.Native.Nat.{_≤_};
 ghost use lib.ListN.{length};
 ghost use Rattle.carv_scheduler.specs.Area.{Opened};
-ghost use Rattle.carv_scheduler.specs.Formed.{Leaves};
-ghost use Rattle.carv_scheduler.specs.Opening.{Wiped, RegistryOpened, blank-board};
+ghost use Rattle.carv_scheduler.specs.laws.Formed.{Leaves};
+ghost use Rattle.carv_scheduler.specs.laws.Opening.{Wiped, RegistryOpened, blank-board};
 
 fn open_registry(a: &mut [u8], cpu: u64, memory: u64) -> carv_objects::Answer
     requires { ⌜ length (now a) ≡ 68_144 ⌝ }
@@ -72,11 +72,15 @@ pub fn open(area: &mut [u8], cpu: u64, memory: u64) -> Answer
         return Answer::Refused(2);
     }
     blank(area, cpu, memory);
-    area::insert_thread(area, 0, rows::fresh_thread(RUNNING, Payer { is: 0, id: 0 }));
+    area::insert_thread(
+        area,
+        0,
+        rows::fresh_thread(RUNNING, BudgetId { is: 0, id: 0 }),
+    );
     area::insert_thread(
         area,
         IDLE,
-        rows::fresh_thread(READY, Payer { is: 0, id: 0 }),
+        rows::fresh_thread(READY, BudgetId { is: 0, id: 0 }),
     );
     Answer::Done
 }

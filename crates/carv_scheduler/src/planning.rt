@@ -8,18 +8,18 @@ use crate::numbers::READY;
 use crate::numbers::RUNNING;
 use crate::numbers::TICK;
 use carv_area::Found;
-use carv_board::Wait;
+use carv_scheduler_spec::Wait;
 ghost use mathlib.Core.Path.{_≡_};
 ghost use mathlib.Core.Bool.{true};
 ghost use Prim.Native.Nat.{_+_, _%_, _^_, _<_};
 ghost use lib.ListN.{length, getD};
 ghost use Rattle.carv_area.specs.Lookup.{Located};
-ghost use Rattle.carv_board.specs.Scheduler.{is, dead, thread, plan};
+ghost use Rattle.carv_scheduler_spec.specs.Scheduler.{is, dead, thread, plan};
 ghost use Rattle.carv_scheduler.specs.Area.{decode, sound-area, Serves};
-ghost use Rattle.carv_scheduler.specs.Rows.{no-row};
-ghost use Rattle.carv_scheduler.specs.Formed.{WellFormed, Leaves};
-ghost use Rattle.carv_scheduler.specs.AreaSteps.{with-head};
-ghost use Rattle.carv_scheduler.specs.Planning.{Renewing, guess-behind, Tests, Tries, Walks, Chooses, Backs, Values, Runs, Leaving, Switches};
+ghost use Rattle.carv_scheduler.specs.laws.Rows.{no-row};
+ghost use Rattle.carv_scheduler.specs.laws.Formed.{WellFormed, Leaves};
+ghost use Rattle.carv_scheduler.specs.laws.AreaSteps.{with-head};
+ghost use Rattle.carv_scheduler.specs.laws.Planning.{Renewing, guess-behind, Tests, Tries, Walks, Chooses, Backs, Values, Runs, Leaving, Switches};
 
 // The thread to run: its places in the queue and in the table, or idle.
 pub enum Next {

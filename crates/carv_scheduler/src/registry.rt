@@ -4,9 +4,9 @@ use carv_objects::Answer;
 use carv_objects::calls;
 ghost use mathlib.Core.Path.{_≡_};
 ghost use mathlib.Core.Bool.{true};
-ghost use Rattle.carv_registry.specs.Registry.{create, insert, create-budget, charge-more, uncharge, remove, refill, charge-cpu, pays-for-anything, read-account, charge-of};
+ghost use Rattle.carv_objects_spec.specs.Registry.{create, insert, create-budget, charge-more, uncharge, remove, refill, charge-cpu, pays-for-anything, read-account, charge-of};
 ghost use Rattle.carv_scheduler.specs.Area.{sound-area};
-ghost use Rattle.carv_scheduler.specs.OnRegistry.{ServesRegistry};
+ghost use Rattle.carv_scheduler.specs.laws.OnRegistry.{ServesRegistry};
 
 pub fn create(a: &mut [u8], kind: u64, payer: u64, backing: bool) -> Answer
     requires { ⌜ sound-area (now a) ≡ true ⌝ }

@@ -1,32 +1,32 @@
 // The thread table: one thread record in each row of 21 words.
 use crate::numbers::READY;
-use carv_board::Context;
-use carv_board::Payer;
-use carv_board::Results;
-use carv_board::Space;
-use carv_board::Thread;
-use carv_board::Wait;
+use carv_scheduler_spec::BudgetId;
+use carv_scheduler_spec::Context;
+use carv_scheduler_spec::Results;
+use carv_scheduler_spec::Spaces;
+use carv_scheduler_spec::Thread;
+use carv_scheduler_spec::Wait;
 ghost use mathlib.Core.Path.{_≡_};
 ghost use Prim.Native.Nat.{_+_, _*_, _^_, _%_, _≤_};
 ghost use lib.ListN.{length, getD, set};
 ghost use Rattle.carv_area.specs.Words.{words};
 ghost use Rattle.carv_area.specs.Moves.{openRow};
-ghost use Rattle.carv_board.specs.Scheduler.{fresh};
-ghost use Rattle.carv_scheduler.specs.Area.{wait-at, payer-at, space-at, context-at, results-at, thread-at};
-ghost use Rattle.carv_scheduler.specs.Rows.{row, set-state, set-start, set-place, set-context, set-results, set-ticks, set-end, set-woken, set-thread};
+ghost use Rattle.carv_scheduler_spec.specs.Scheduler.{fresh};
+ghost use Rattle.carv_scheduler.specs.Area.{wait-at, budget-id-at, spaces-at, context-at, results-at, thread-at};
+ghost use Rattle.carv_scheduler.specs.laws.Rows.{row, set-state, set-start, set-spaces, set-context, set-results, set-ticks, set-end, set-woken, set-thread};
 
 // How many words a row has.
 pub const ROW: usize = 21;
 
 // The record of a new thread.
-pub fn fresh_thread(state: u64, budget: Payer) -> Thread
+pub fn fresh_thread(state: u64, budget: BudgetId) -> Thread
     ensures { λ r. ⌜ r ≡ fresh state budget ⌝ }
 {
     Thread {
         state,
         wait: Wait { kind: 0, number: 0 },
         budget,
-        place: Space {
+        spaces: Spaces {
             is: 0,
             space: 0,
             cspace: 0,
@@ -59,24 +59,24 @@ fn read_wait(t: &[u8], o: usize) -> Wait
     Wait { kind, number }
 }
 
-fn read_payer(t: &[u8], o: usize) -> Payer
+fn read_budget_id(t: &[u8], o: usize) -> BudgetId
     requires { ⌜ o * 8 + 16 ≤ length (now t) ⌝ }
-    ensures { λ r. ⌜ r ≡ payer-at (words (now (t .entry))) o ⌝ }
+    ensures { λ r. ⌜ r ≡ budget-id-at (words (now (t .entry))) o ⌝ }
 {
     let is = carv_area::get(t, o);
     let id = carv_area::get(t, o + 1);
-    Payer { is, id }
+    BudgetId { is, id }
 }
 
-fn read_space(t: &[u8], o: usize) -> Space
+fn read_spaces(t: &[u8], o: usize) -> Spaces
     requires { ⌜ o * 8 + 32 ≤ length (now t) ⌝ }
-    ensures { λ r. ⌜ r ≡ space-at (words (now (t .entry))) o ⌝ }
+    ensures { λ r. ⌜ r ≡ spaces-at (words (now (t .entry))) o ⌝ }
 {
     let is = carv_area::get(t, o);
     let space = carv_area::get(t, o + 1);
     let cspace = carv_area::get(t, o + 2);
     let root = carv_area::get(t, o + 3);
-    Space {
+    Spaces {
         is,
         space,
         cspace,
@@ -128,8 +128,8 @@ pub fn read_thread(t: &[u8], i: usize) -> Thread
     let o = i * ROW;
     let state = carv_area::get(t, o + 2);
     let wait = read_wait(t, o + 3);
-    let budget = read_payer(t, o + 5);
-    let place = read_space(t, o + 7);
+    let budget = read_budget_id(t, o + 5);
+    let spaces = read_spaces(t, o + 7);
     let context = read_context(t, o + 11);
     let results = read_results(t, o + 18);
     let ticks = carv_area::get(t, o + 21);
@@ -137,7 +137,7 @@ pub fn read_thread(t: &[u8], i: usize) -> Thread
         state,
         wait,
         budget,
-        place,
+        spaces,
         context,
         results,
         ticks,
@@ -156,7 +156,7 @@ pub fn write_state(t: &mut [u8], i: usize, state: u64, wait: Wait)
 }
 
 // The id, state, wait and budget of the record at place i.
-fn write_start(t: &mut [u8], i: usize, id: u64, state: u64, wait: Wait, budget: Payer)
+fn write_start(t: &mut [u8], i: usize, id: u64, state: u64, wait: Wait, budget: BudgetId)
     requires { ⌜ (i * 21 + 21) * 8 + 8 ≤ length (now t) ⌝ }
     ensures { λ _. ⌜ words (now (t .exit)) ≡ set-start (words (now (t .entry))) i id state wait budget ⌝ }
 {
@@ -167,15 +167,15 @@ fn write_start(t: &mut [u8], i: usize, id: u64, state: u64, wait: Wait, budget: 
     carv_area::put(t, o + 6, budget.id);
 }
 
-fn write_place(t: &mut [u8], i: usize, place: Space)
+fn write_spaces(t: &mut [u8], i: usize, spaces: Spaces)
     requires { ⌜ (i * 21 + 21) * 8 + 8 ≤ length (now t) ⌝ }
-    ensures { λ _. ⌜ words (now (t .exit)) ≡ set-place (words (now (t .entry))) i place ⌝ }
+    ensures { λ _. ⌜ words (now (t .exit)) ≡ set-spaces (words (now (t .entry))) i spaces ⌝ }
 {
     let o = i * ROW;
-    carv_area::put(t, o + 7, place.is);
-    carv_area::put(t, o + 8, place.space);
-    carv_area::put(t, o + 9, place.cspace);
-    carv_area::put(t, o + 10, place.root);
+    carv_area::put(t, o + 7, spaces.is);
+    carv_area::put(t, o + 8, spaces.space);
+    carv_area::put(t, o + 9, spaces.cspace);
+    carv_area::put(t, o + 10, spaces.root);
 }
 
 fn write_context(t: &mut [u8], i: usize, context: Context)
@@ -218,11 +218,11 @@ pub fn write_thread(t: &mut [u8], i: usize, id: u64, thread: Thread)
 {
     let wait = thread.wait;
     let budget = thread.budget;
-    let place = thread.place;
+    let spaces = thread.spaces;
     let context = thread.context;
     let results = thread.results;
     write_start(t, i, id, thread.state, wait, budget);
-    write_place(t, i, place);
+    write_spaces(t, i, spaces);
     write_context(t, i, context);
     write_end(t, i, results, thread.ticks);
 }

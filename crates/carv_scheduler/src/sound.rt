@@ -18,10 +18,10 @@ ghost use Prim.Native.Nat.{_+_, _*_, _≤_, _<_};
 ghost use lib.ListN.{length, getD};
 ghost use Rattle.carv_area.specs.Words.{words};
 ghost use Rattle.carv_area.specs.Stored.{Keyed};
-ghost use Rattle.carv_objects.specs.SoundWalk.{Tells};
-ghost use Rattle.carv_board.specs.Sound.{unpaid};
+ghost use Rattle.carv_objects.specs.laws.SoundWalk.{Tells};
+ghost use Rattle.carv_scheduler_spec.specs.Sound.{unpaid};
 ghost use Rattle.carv_scheduler.specs.Area.{sound-area};
-ghost use Rattle.carv_scheduler.specs.SoundWalk.{wait-fits, budget-fits, space-fits, state-fits, Ordered, Fits, Fit, Current, Idle, Walk, Turned, Walked, SoundThreads, SoundTables, SoundExits, SoundParts};
+ghost use Rattle.carv_scheduler.specs.laws.SoundWalk.{wait-fits, budget-fits, space-fits, state-fits, Ordered, Fits, Fit, Current, Idle, Walk, Turned, Walked, SoundThreads, SoundTables, SoundExits, SoundParts};
 
 // Has a thread in this state this wait?
 fn wait_fits(state: u64, kind: u64, number: u64) -> bool

@@ -5,20 +5,20 @@ use crate::numbers::BLOCKED;
 use crate::numbers::LAST_TICK;
 use crate::numbers::TICK;
 use carv_area::Found;
-use carv_board::Results;
+use carv_scheduler_spec::Results;
 ghost use mathlib.Core.Path.{_≡_};
 ghost use mathlib.Core.Bool.{true};
 ghost use Prim.Native.Nat.{_<_};
 ghost use lib.ListN.{length, getD};
 ghost use Rattle.carv_area.specs.Table.{pick};
 ghost use Rattle.carv_area.specs.Lookup.{Here};
-ghost use Rattle.carv_registry.specs.Registry.{charge-most};
-ghost use Rattle.carv_board.specs.Scheduler.{blocked, is, is-due, with-registry, wake, wake-all, tick};
+ghost use Rattle.carv_objects_spec.specs.Registry.{charge-most};
+ghost use Rattle.carv_scheduler_spec.specs.Scheduler.{blocked, is, is-due, with-registry, wake, wake-all, tick};
 ghost use Rattle.carv_scheduler.specs.Area.{decode, sound-area, Is, Serves};
-ghost use Rattle.carv_scheduler.specs.Rows.{no-row};
-ghost use Rattle.carv_scheduler.specs.Formed.{WellFormed, Leaves};
-ghost use Rattle.carv_scheduler.specs.Waking.{wake-place};
-ghost use Rattle.carv_scheduler.specs.Ticking.{accounted};
+ghost use Rattle.carv_scheduler.specs.laws.Rows.{no-row};
+ghost use Rattle.carv_scheduler.specs.laws.Formed.{WellFormed, Leaves};
+ghost use Rattle.carv_scheduler.specs.laws.Waking.{wake-place};
+ghost use Rattle.carv_scheduler.specs.laws.Ticking.{accounted};
 
 // The budget id, if it is live, is charged a tick, or all that is left.
 fn charge(a: &mut [u8], id: u64, time: u64)
@@ -32,7 +32,7 @@ fn charge(a: &mut [u8], id: u64, time: u64)
 fn wake_thread(a: &mut [u8], i: usize, id: u64, results: Results)
     requires { ⌜ sound-area (now a) ≡ true ⌝ }
     requires { ⌜ Here no-row (decode (now a) .threads) id i × (is blocked (getD (decode (now a) .threads) i no-row .it) ≡ true) ⌝ }
-    ensures { λ _. ⌜ Is (now (a .exit)) (wake id results (decode (now (a .entry))) .now) ⌝ }
+    ensures { λ _. ⌜ Is (now (a .exit)) (wake id results (decode (now (a .entry))) .after) ⌝ }
 {
     area::set_woken(a, i, results);
     area::queue_push(a, id)

@@ -11,7 +11,7 @@ use borrow.Author.Tests.{eqb-true, eq-eqb, ne-eqb}
 use Rattle.carv_budget.specs.declared.Account.{Account}
 use Rattle.carv_budget.specs.declared.Outcome.{Outcome}
 use Rattle.carv_budget.specs.Account.{number, blank, with-memory}
-use Rattle.carv_budget.specs.Laws.{both, first, second}
+use Rattle.carv_budget.specs.laws.Account.{both, first, second}
 use Rattle.replay_accounts.specs.declared.Block.{Block}
 use Rattle.replay_accounts.specs.declared.record.Call.{Call}
 use Rattle.replay_accounts.specs.declared.record.Reply.{Reply}

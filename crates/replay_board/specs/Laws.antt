@@ -77,7 +77,7 @@ module _ (l : List ℕ) (k : ℕ) (a : List ℕ) (c : Call) (e : c ≡ call l k)
 pub one-more : (l a : List ℕ) (n d : ℕ) (a₁ a₂ : List ℕ) (b : Bool) → Replayed l a n d a₁ → Agrees l (n * 34) a₁ b a₂ → (d₂ : ℕ) → d₂ ≡ d + cond b 0 1
     → Replayed l a (n + 1) d₂ a₂
 unfolding Replayed
-one-more l a n d a₁ a₂ b h g d₂ e = rw add-one (record { count = d; area = a₁; agrees = b; earlier = h; now = g; counted = e })
+one-more l a n d a₁ a₂ b h g d₂ e = rw add-one (record { count = d; area = a₁; agrees = b; earlier = h; after = g; counted = e })
 
 pub one-wrong : (b : Bool) → not b ≡ true → _≡_ {A = ℕ} (cond b 0 1) 1
 one-wrong b p = rw (not-true b p)

@@ -6,8 +6,8 @@ use mathlib.Core.List.{List}
 use Prim.Native.Nat.{ℕ, zero, suc, _+_, _*_, _<_}
 use lib.Dec.{eqb}
 use lib.ListN.{replicate}
-use Rattle.carv_registry.specs.Registry.{create, insert, create-budget, charge-more, uncharge, remove, refill, charge-cpu, pays-for-anything, read-account, charge-of}
-use Rattle.carv_board.specs.Scheduler.{by-registry, create-user-thread, start, block-current, wake, is-blocked-on, kill, tick, plan, read-thread, read-current, read-switches, exit-of}
+use Rattle.carv_objects_spec.specs.Registry.{create, insert, create-budget, charge-more, uncharge, remove, refill, charge-cpu, pays-for-anything, read-account, charge-of}
+use Rattle.carv_scheduler_spec.specs.Scheduler.{by-registry, create-user-thread, start, block-current, wake, is-blocked-on, kill, tick, plan, read-thread, read-current, read-switches, exit-of}
 use Rattle.carv.specs.C.{Called, Opens, CreatesInC}
 use Rattle.replay_board.specs.declared.record.Call.{Call}
 use Rattle.replay_board.specs.Record.{word, call, unwritten, recorded, Tells}
@@ -64,7 +64,7 @@ pub record Step (before : ℕ → List ℕ → Type 0) (l : List ℕ) (k d : ℕ
   pub area : List ℕ
   pub agrees : Bool
   pub earlier : before count area
-  pub now : Agrees l k area agrees a′
+  pub after : Agrees l k area agrees a′
   pub counted : d ≡ count + cond agrees 0 1
 
 -- of the first n records of l, replayed from the area a on, d differ, and a′ is left

@@ -7,7 +7,7 @@ use native.Mathlib.Numerals.{add-one}
 use native.Mathlib.Omega.{arith}
 use lib.Dec.{leb}
 use borrow.Author.Tests.{eqb-true, eq-eqb, leb-true, not-true, not-false}
-use Rattle.carv_budget.specs.Laws.{both, first, second}
+use Rattle.carv_budget.specs.laws.Account.{both, first, second}
 use Rattle.carv_objects.specs.declared.Answer.{Answer}
 use Rattle.replay_objects.specs.declared.record.Call.{Call}
 use Rattle.replay_objects.specs.declared.record.Reply.{Reply}
@@ -71,7 +71,7 @@ pub one-more : (l a : List ℕ) (n d : ℕ) (a₁ a₂ : List ℕ) (c : Call) (y
 unfolding Replayed
 one-more l a n d a₁ a₂ c y b h p q g d₂ e =
     let k : Agrees (call l (n * 16)) (reply l (n * 16)) a₁ b a₂ = rw (sym p, sym q) g in
-    rw add-one (record { count = d; area = a₁; agrees = b; earlier = h; now = k; counted = e })
+    rw add-one (record { count = d; area = a₁; agrees = b; earlier = h; after = k; counted = e })
 
 pub one-wrong : (b : Bool) → not b ≡ true → _≡_ {A = ℕ} (cond b 0 1) 1
 one-wrong b p = rw (not-true b p)

@@ -6,8 +6,8 @@ use Prim.Native.Nat.{ℕ, zero, suc, _+_, _*_}
 use lib.Dec.{eqb, leb}
 use Rattle.carv_budget.specs.declared.Account.{Account}
 use Rattle.carv_objects.specs.declared.Answer.{Answer}
-use Rattle.carv_objects.specs.declared.Answer.the-variants.{Done, Id, Renewed, NotDue, Pays, PaysNothing, Figures, Charge, Refused}
-use Rattle.carv_registry.specs.Registry.{create, insert, create-budget, charge-more, uncharge, remove, refill, charge-cpu, pays-for-anything, read-account, charge-of}
+use Rattle.carv_objects.specs.declared.Answer.the-variants.{Done, Id, Renewed, NotDue, Pays, PaysNothing, AccountOf, Charge, Refused}
+use Rattle.carv_objects_spec.specs.Registry.{create, insert, create-budget, charge-more, uncharge, remove, refill, charge-cpu, pays-for-anything, read-account, charge-of}
 use Rattle.carv_objects.specs.Area.{Answered, Opened}
 use Rattle.replay_objects.specs.declared.record.Call.{Call}
 use Rattle.replay_objects.specs.declared.record.Reply.{Reply}
@@ -24,7 +24,7 @@ replied Renewed = numbered 0 1 0
 replied NotDue = numbered 0 0 0
 replied Pays = numbered 0 1 0
 replied PaysNothing = numbered 0 0 0
-replied (Figures a) = record {
+replied (AccountOf a) = record {
   number = 0;
   first = a .«cpu_allowance»;
   second = a .«memory_limit»;
@@ -69,7 +69,7 @@ pub record Step (before : ℕ → List ℕ → Type 0) (c : Call) (y : Reply) (d
   pub area : List ℕ
   pub agrees : Bool
   pub earlier : before count area
-  pub now : Agrees c y area agrees a′
+  pub after : Agrees c y area agrees a′
   pub counted : d ≡ count + cond agrees 0 1
 
 -- of the first n records of l, replayed from the area a on, d differ, and a′ is left

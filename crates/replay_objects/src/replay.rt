@@ -31,7 +31,7 @@ fn reply_of(answer: Answer) -> Reply
         Answer::NotDue => short(0, 0, 0),
         Answer::Pays => short(0, 1, 0),
         Answer::PaysNothing => short(0, 0, 0),
-        Answer::Figures(account) => Reply {
+        Answer::AccountOf(account) => Reply {
             number: 0,
             first: account.cpu_allowance,
             second: account.memory_limit,

@@ -1,6 +1,6 @@
 -- `carv::carv_charge_cpu` meets its contract. Assumes nothing.
 use borrow.Author.Needs.{needs}
-use Rattle.carv.specs.Reporting.{returned-one, returned}
+use Rattle.carv.specs.laws.Reporting.{returned-one, returned}
 use Rattle.carv.proofs.carv_charge_cpu.Statement.{statement}
 use Rattle.carv.proofs.carv_charge_cpu.Tie as tie
 

@@ -1,6 +1,6 @@
 -- `carv::carv_create_user_thread` meets its contract. Assumes nothing.
 use borrow.Author.Needs.{needs}
-use Rattle.carv.specs.Reporting.{c-created-size, c-created}
+use Rattle.carv.specs.laws.Reporting.{c-created-size, c-created}
 use Rattle.carv.proofs.carv_create_user_thread.Statement.{statement}
 use Rattle.carv.proofs.carv_create_user_thread.Tie as tie
 

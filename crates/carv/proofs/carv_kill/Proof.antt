@@ -1,6 +1,6 @@
 -- `carv::carv_kill` meets its contract. Assumes nothing.
 use borrow.Author.Needs.{needs}
-use Rattle.carv.specs.Reporting.{returned-one, returned}
+use Rattle.carv.specs.laws.Reporting.{returned-one, returned}
 use Rattle.carv.proofs.carv_kill.Statement.{statement}
 use Rattle.carv.proofs.carv_kill.Tie as tie
 

@@ -3,7 +3,7 @@ use borrow.Author.Needs.{needs}
 use mathlib.Core.Path.{refl}
 use native.Mathlib.Omega.{arith}
 use lib.ListN.{length-set}
-use Rattle.carv.specs.Reporting.{reported-as}
+use Rattle.carv.specs.laws.Reporting.{reported-as}
 use Rattle.carv.proofs.report.Statement.{statement}
 use Rattle.carv.proofs.report.Tie as tie
 

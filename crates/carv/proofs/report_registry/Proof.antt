@@ -1,7 +1,7 @@
 -- `carv::report_registry` meets its contract. Assumes nothing.
 use borrow.Author.Needs.{needs}
 use mathlib.Core.Path.{refl}
-use Rattle.carv.specs.Reporting.{registry-reported-as}
+use Rattle.carv.specs.laws.Reporting.{registry-reported-as}
 use Rattle.carv.proofs.report_registry.Statement.{statement}
 use Rattle.carv.proofs.report_registry.Tie as tie
 
@@ -21,7 +21,7 @@ report-registry-spec =
     (λ c. search needs)  -- enum-told-5
     (λ c. search needs)  -- slice-write-out-5
     (λ c. search needs)  -- enum-known-answer-2
-    (λ c κs. search needs)  -- write-figures-requires
+    (λ c κs. search needs)  -- write-account-requires
     (λ c. search needs)  -- enum-known-answer-3
     (λ c. search needs)  -- slice-write-out-6
     (λ c. search needs)  -- slice-write-out-7
@@ -38,7 +38,7 @@ report-registry-spec =
     (λ c. search needs)  -- same-length-5
     (λ c. registry-reported-as _ _ (c .enum-told5 .given .1) _ _ _ refl refl)  -- returns-6
     (λ c. search needs)  -- same-length-6
-    (λ c. registry-reported-as _ _ (c .before .before .before .before .before .answer2 .given .1) _ _ _ refl (c .before .before .write-figures .ensures))  -- returns-7
+    (λ c. registry-reported-as _ _ (c .before .before .before .before .before .answer2 .given .1) _ _ _ refl (c .before .before .write-account .ensures))  -- returns-7
     (λ c. search needs)  -- same-length-7
     (λ c. registry-reported-as _ _ (c .before .answer3 .given .1) _ _ _ refl refl)  -- returns-8
     (λ c. registry-reported-as _ _ (c .before .answer4 .given .1) _ _ _ refl refl))  -- returns-9

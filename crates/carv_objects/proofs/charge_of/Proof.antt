@@ -1,6 +1,6 @@
 -- `carv_objects::charge_of` meets its contract. Assumes nothing.
 use borrow.Author.Needs.{needs}
-use Rattle.carv_objects.specs.Entry.{entry-refused, entry-sound, entry-served}
+use Rattle.carv_objects.specs.laws.Entry.{entry-refused, entry-sound, entry-served}
 use Rattle.carv_objects.proofs.charge_of.Statement.{statement}
 use Rattle.carv_objects.proofs.charge_of.Tie as tie
 

@@ -1,6 +1,6 @@
 -- `carv_objects::pays_for_anything` meets its contract. Assumes nothing.
 use borrow.Author.Needs.{needs}
-use Rattle.carv_objects.specs.Entry.{entry-refused, entry-sound, entry-served}
+use Rattle.carv_objects.specs.laws.Entry.{entry-refused, entry-sound, entry-served}
 use Rattle.carv_objects.proofs.pays_for_anything.Statement.{statement}
 use Rattle.carv_objects.proofs.pays_for_anything.Tie as tie
 

@@ -1,8 +1,8 @@
 -- `carv_scheduler::create_budget` meets its contract. Assumes nothing.
 use borrow.Author.Needs.{needs}
-use Rattle.carv_scheduler.specs.Entry.{entry-refused, entry-sound, entry-served}
-use Rattle.carv_scheduler.specs.OnRegistry.{registry-serves}
-use Rattle.carv_registry.specs.Registry.{create-budget}
+use Rattle.carv_scheduler.specs.laws.Entry.{entry-refused, entry-sound, entry-served}
+use Rattle.carv_scheduler.specs.laws.OnRegistry.{registry-serves}
+use Rattle.carv_objects_spec.specs.Registry.{create-budget}
 use Rattle.carv_scheduler.proofs.create_budget.Statement.{statement}
 use Rattle.carv_scheduler.proofs.create_budget.Tie as tie
 

@@ -1,6 +1,6 @@
 -- `carv_scheduler::create_user_thread` meets its contract. Assumes nothing.
 use borrow.Author.Needs.{needs}
-use Rattle.carv_scheduler.specs.Creating.{created-size, created-filled, created-refused}
+use Rattle.carv_scheduler.specs.laws.Creation.{created-size, created-filled, created-refused}
 use Rattle.carv_scheduler.proofs.create_user_thread.Statement.{statement}
 use Rattle.carv_scheduler.proofs.create_user_thread.Tie as tie
 

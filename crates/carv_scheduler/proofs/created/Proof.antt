@@ -1,7 +1,7 @@
 -- `carv_scheduler::created` meets its contract. Assumes nothing.
 use borrow.Author.Needs.{needs}
 use mathlib.Core.Path.{refl}
-use Rattle.carv_scheduler.specs.Entry.{entry-refused, entry-sound, entry-served}
+use Rattle.carv_scheduler.specs.laws.Entry.{entry-refused, entry-sound, entry-served}
 use Rattle.carv_scheduler.proofs.created.Statement.{statement}
 use Rattle.carv_scheduler.proofs.created.Tie as tie
 

@@ -1,8 +1,8 @@
 -- `carv_scheduler::insert` meets its contract. Assumes nothing.
 use borrow.Author.Needs.{needs}
-use Rattle.carv_scheduler.specs.Entry.{entry-refused, entry-sound, entry-served}
-use Rattle.carv_scheduler.specs.OnRegistry.{registry-serves}
-use Rattle.carv_registry.specs.Registry.{insert}
+use Rattle.carv_scheduler.specs.laws.Entry.{entry-refused, entry-sound, entry-served}
+use Rattle.carv_scheduler.specs.laws.OnRegistry.{registry-serves}
+use Rattle.carv_objects_spec.specs.Registry.{insert}
 use Rattle.carv_scheduler.proofs.insert.Statement.{statement}
 use Rattle.carv_scheduler.proofs.insert.Tie as tie
 

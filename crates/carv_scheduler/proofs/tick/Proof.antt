@@ -1,6 +1,6 @@
 -- `carv_scheduler::tick` meets its contract. Assumes nothing.
 use borrow.Author.Needs.{needs}
-use Rattle.carv_scheduler.specs.Entry.{entry-refused, entry-sound, entry-served}
+use Rattle.carv_scheduler.specs.laws.Entry.{entry-refused, entry-sound, entry-served}
 use Rattle.carv_scheduler.proofs.tick.Statement.{statement}
 use Rattle.carv_scheduler.proofs.tick.Tie as tie
 

@@ -1,6 +1,6 @@
 -- `carv_objects::accounts::carve` meets its contract. Assumes nothing.
 use borrow.Author.Needs.{needs}
-use Rattle.carv_objects.specs.Booked.{carves-yes, carves-no}
+use Rattle.carv_objects.specs.laws.Booked.{carves-yes, carves-no}
 use Rattle.carv_objects.proofs.accounts.carve.Statement.{statement}
 use Rattle.carv_objects.proofs.accounts.carve.Tie as tie
 

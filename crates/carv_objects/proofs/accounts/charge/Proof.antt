@@ -1,7 +1,7 @@
 -- `carv_objects::accounts::charge` meets its contract. Assumes nothing.
 use borrow.Author.Needs.{needs}
 use mathlib.Core.Path.{refl}
-use Rattle.carv_objects.specs.Booked.{charge-is, books-yes, books-no}
+use Rattle.carv_objects.specs.laws.Booked.{charge-is, books-yes, books-no}
 use Rattle.carv_objects.proofs.accounts.charge.Statement.{statement}
 use Rattle.carv_objects.proofs.accounts.charge.Tie as tie
 

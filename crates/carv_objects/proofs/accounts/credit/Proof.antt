@@ -1,6 +1,6 @@
 -- `carv_objects::accounts::credit` meets its contract. Assumes nothing.
 use borrow.Author.Needs.{needs}
-use Rattle.carv_objects.specs.Booked.{credit-is}
+use Rattle.carv_objects.specs.laws.Booked.{credit-is}
 use Rattle.carv_objects.proofs.accounts.credit.Statement.{statement}
 use Rattle.carv_objects.proofs.accounts.credit.Tie as tie
 

@@ -1,7 +1,7 @@
 -- `carv_objects::accounts::give_back` meets its contract. Assumes nothing.
 use borrow.Author.Needs.{needs}
 use mathlib.Core.Path.{refl}
-use Rattle.carv_objects.specs.Booked.{return-is, books-yes, books-no}
+use Rattle.carv_objects.specs.laws.Booked.{return-is, books-yes, books-no}
 use Rattle.carv_objects.proofs.accounts.give_back.Statement.{statement}
 use Rattle.carv_objects.proofs.accounts.give_back.Tie as tie
 

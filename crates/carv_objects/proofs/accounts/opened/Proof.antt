@@ -4,7 +4,7 @@ use mathlib.Core.Path.{refl}
 use lib.Dec.{leb}
 use Rattle.carv_budget.specs.declared.Answer.the-variants.{CpuBudgetExceedsPeriod}
 use Rattle.carv_budget.specs.Account.{period, fresh, blank}
-use Rattle.carv_objects.specs.Booked.{books-yes, books-no}
+use Rattle.carv_objects.specs.laws.Booked.{books-yes, books-no}
 use Rattle.carv_objects.proofs.accounts.opened.Statement.{statement}
 use Rattle.carv_objects.proofs.accounts.opened.Tie as tie
 

@@ -1,6 +1,6 @@
 -- `carv_objects::accounts::renew` meets its contract. Assumes nothing.
 use borrow.Author.Needs.{needs}
-use Rattle.carv_objects.specs.Booked.{renew-is}
+use Rattle.carv_objects.specs.laws.Booked.{renew-is}
 use Rattle.carv_objects.proofs.accounts.renew.Statement.{statement}
 use Rattle.carv_objects.proofs.accounts.renew.Tie as tie
 

@@ -1,7 +1,7 @@
 -- `carv_objects::accounts::spend` meets its contract. Assumes nothing.
 use borrow.Author.Needs.{needs}
 use mathlib.Core.Path.{refl}
-use Rattle.carv_objects.specs.Booked.{spend-is, books-yes, books-no}
+use Rattle.carv_objects.specs.laws.Booked.{spend-is, books-yes, books-no}
 use Rattle.carv_objects.proofs.accounts.spend.Statement.{statement}
 use Rattle.carv_objects.proofs.accounts.spend.Tie as tie
 

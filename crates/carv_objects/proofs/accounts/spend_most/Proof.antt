@@ -1,6 +1,6 @@
 -- `carv_objects::accounts::spend_most` meets its contract. Assumes nothing.
 use borrow.Author.Needs.{needs}
-use Rattle.carv_objects.specs.Cpu.{spends-most}
+use Rattle.carv_objects.specs.laws.Cpu.{spends-most}
 use Rattle.carv_objects.proofs.accounts.spend_most.Statement.{statement}
 use Rattle.carv_objects.proofs.accounts.spend_most.Tie as tie
 

@@ -1,8 +1,8 @@
 -- `carv_objects::area::add` meets its contract. Assumes nothing.
 use borrow.Author.Needs.{needs}
 use native.Mathlib.Omega.{arith}
-use Rattle.carv_objects.specs.Formed.{leaves-as}
-use Rattle.carv_objects.specs.AreaSteps.{room-next, room-place, add-raised, add-place, add-rising, add-same}
+use Rattle.carv_objects.specs.laws.Formed.{leaves-as}
+use Rattle.carv_objects.specs.laws.AreaSteps.{room-next, room-place, add-raised, add-place, add-rising, add-same}
 use Rattle.carv_objects.specs.Area.{decode}
 use Rattle.carv_objects.proofs.area.add.Statement.{statement}
 use Rattle.carv_objects.proofs.area.add.Tie as tie

@@ -3,8 +3,8 @@ use borrow.Author.Needs.{needs}
 use native.Mathlib.Omega.{arith}
 use mathlib.Core.Path.{_∙_}
 use Rattle.carv_objects.specs.Area.{table}
-use Rattle.carv_objects.specs.Formed.{length-table}
-use Rattle.carv_objects.specs.AreaSteps.{entry-appended}
+use Rattle.carv_objects.specs.laws.Formed.{length-table}
+use Rattle.carv_objects.specs.laws.AreaSteps.{entry-appended}
 use Rattle.carv_objects.proofs.area.append.Statement.{statement}
 use Rattle.carv_objects.proofs.area.append.Tie as tie
 

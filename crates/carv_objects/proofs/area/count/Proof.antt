@@ -1,7 +1,7 @@
 -- `carv_objects::area::count` meets its contract. Assumes nothing.
 use borrow.Author.Needs.{needs}
 use Rattle.carv_objects.specs.Area.{table}
-use Rattle.carv_objects.specs.AreaSteps.{count-is}
+use Rattle.carv_objects.specs.laws.AreaSteps.{count-is}
 use Rattle.carv_objects.proofs.area.count.Statement.{statement}
 use Rattle.carv_objects.proofs.area.count.Tie as tie
 

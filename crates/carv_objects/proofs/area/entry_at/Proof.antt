@@ -1,7 +1,7 @@
 -- `carv_objects::area::entry_at` meets its contract. Assumes nothing.
 use borrow.Author.Needs.{needs}
 use Rattle.carv_objects.specs.Area.{table}
-use Rattle.carv_objects.specs.AreaSteps.{entry-room, entry-is}
+use Rattle.carv_objects.specs.laws.AreaSteps.{entry-room, entry-is}
 use Rattle.carv_objects.proofs.area.entry_at.Statement.{statement}
 use Rattle.carv_objects.proofs.area.entry_at.Tie as tie
 

@@ -1,7 +1,7 @@
 -- `carv_objects::area::find` meets its contract. Assumes nothing.
 use borrow.Author.Needs.{needs}
 use Rattle.carv_objects.specs.Area.{table}
-use Rattle.carv_objects.specs.AreaSteps.{table-keyed, found-is}
+use Rattle.carv_objects.specs.laws.AreaSteps.{table-keyed, found-is}
 use Rattle.carv_objects.proofs.area.find.Statement.{statement}
 use Rattle.carv_objects.proofs.area.find.Tie as tie
 

@@ -1,6 +1,6 @@
 -- `carv_objects::area::find_budget` meets its contract. Assumes nothing.
 use borrow.Author.Needs.{needs}
-use Rattle.carv_objects.specs.AreaSteps.{located-here, located-gone, gone-budget, here-other, here-budget}
+use Rattle.carv_objects.specs.laws.AreaSteps.{located-here, located-gone, gone-budget, here-other, here-budget}
 use Rattle.carv_objects.specs.Area.{decode}
 use Rattle.carv_objects.proofs.area.find_budget.Statement.{statement}
 use Rattle.carv_objects.proofs.area.find_budget.Tie as tie

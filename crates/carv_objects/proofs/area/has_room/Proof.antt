@@ -1,6 +1,6 @@
 -- `carv_objects::area::has_room` meets its contract. Assumes nothing.
 use borrow.Author.Needs.{needs}
-use Rattle.carv_objects.specs.AreaSteps.{room-full, room-last, room-there}
+use Rattle.carv_objects.specs.laws.AreaSteps.{room-full, room-last, room-there}
 use Rattle.carv_objects.specs.Area.{decode}
 use Rattle.carv_objects.proofs.area.has_room.Statement.{statement}
 use Rattle.carv_objects.proofs.area.has_room.Tie as tie

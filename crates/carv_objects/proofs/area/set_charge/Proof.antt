@@ -1,7 +1,7 @@
 -- `carv_objects::area::set_charge` meets its contract. Assumes nothing.
 use borrow.Author.Needs.{needs}
-use Rattle.carv_objects.specs.Formed.{leaves-as}
-use Rattle.carv_objects.specs.AreaSteps.{charge-set}
+use Rattle.carv_objects.specs.laws.Formed.{leaves-as}
+use Rattle.carv_objects.specs.laws.AreaSteps.{charge-set}
 use Rattle.carv_objects.proofs.area.set_charge.Statement.{statement}
 use Rattle.carv_objects.proofs.area.set_charge.Tie as tie
 

@@ -2,8 +2,8 @@
 use borrow.Author.Needs.{needs}
 use mathlib.Core.Path.{_∙_}
 use Rattle.carv_objects.specs.Area.{table}
-use Rattle.carv_objects.specs.Formed.{length-table}
-use Rattle.carv_objects.specs.AreaSteps.{entry-room, entry-set}
+use Rattle.carv_objects.specs.laws.Formed.{length-table}
+use Rattle.carv_objects.specs.laws.AreaSteps.{entry-room, entry-set}
 use Rattle.carv_objects.proofs.area.set_entry.Statement.{statement}
 use Rattle.carv_objects.proofs.area.set_entry.Tie as tie
 

@@ -2,8 +2,8 @@
 use borrow.Author.Needs.{needs}
 use mathlib.Core.Path.{_∙_}
 use Rattle.carv_objects.specs.Area.{head}
-use Rattle.carv_objects.specs.Formed.{length-head}
-use Rattle.carv_objects.specs.AreaSteps.{next-set}
+use Rattle.carv_objects.specs.laws.Formed.{length-head}
+use Rattle.carv_objects.specs.laws.AreaSteps.{next-set}
 use Rattle.carv_objects.proofs.area.set_next.Statement.{statement}
 use Rattle.carv_objects.proofs.area.set_next.Tie as tie
 

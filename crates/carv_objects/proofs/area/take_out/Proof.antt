@@ -2,8 +2,8 @@
 use borrow.Author.Needs.{needs}
 use mathlib.Core.Path.{_∙_}
 use Rattle.carv_objects.specs.Area.{table}
-use Rattle.carv_objects.specs.Formed.{length-table}
-use Rattle.carv_objects.specs.AreaSteps.{remove-room, remove-within, entry-removed}
+use Rattle.carv_objects.specs.laws.Formed.{length-table}
+use Rattle.carv_objects.specs.laws.AreaSteps.{remove-room, remove-within, entry-removed}
 use Rattle.carv_objects.proofs.area.take_out.Statement.{statement}
 use Rattle.carv_objects.proofs.area.take_out.Tie as tie
 

@@ -3,11 +3,11 @@ use borrow.Author.Needs.{needs}
 use mathlib.Core.Path.{refl, sym, ap, _∙_}
 use mathlib.Core.Option.{some}
 use Rattle.carv_budget.specs.declared.Account.{Account}
-use Rattle.carv_registry.specs.Reply.{figures}
-use Rattle.carv_objects.specs.Formed.{unchanged}
-use Rattle.carv_objects.specs.AreaSteps.{budget-here, budget-gone}
-use Rattle.carv_objects.specs.Calls.{area-sound, area-formed, refused, answered, account-here}
-use Rattle.carv_registry.specs.Questions.{read-account-missing, read-account-done}
+use Rattle.carv_objects_spec.specs.Reply.{of-account}
+use Rattle.carv_objects.specs.laws.Formed.{unchanged}
+use Rattle.carv_objects.specs.laws.AreaSteps.{budget-here, budget-gone}
+use Rattle.carv_objects.specs.laws.Calls.{area-sound, area-formed, refused, answered, account-here}
+use Rattle.carv_objects_spec.specs.laws.Questions.{read-account-missing, read-account-done}
 use Rattle.carv_objects.specs.Area.{decode}
 use Rattle.carv_objects.proofs.calls.account.Statement.{statement}
 use Rattle.carv_objects.proofs.calls.account.Tie as tie
@@ -22,5 +22,5 @@ account-spec =
     (λ c. refused _ _ (c .before .before .before .before .pre) 7 (read-account-missing (c .before .before .before .before .args .id) (decode (c .before .before .before .before .args .a .now)) (budget-gone (decode (c .before .before .before .before .args .a .now)) _ _ (c .before .before .find-budget .ensures) (c .enum-told .given .1))))  -- returns
     (λ c κs. (area-formed _ (c .before .before .before .before .before .pre), budget-here (decode (c .before .before .before .before .before .args .a .now)) _ _ (c .before .before .before .find-budget .ensures) _ (c .before .i .given .1) .0 .within))  -- account-at-requires
     (λ c. answered _ _ (c .before .before .before .before .before .before .pre) _ (read-account-done (c .before .before .before .before .before .before .args .id) (decode (c .before .before .before .before .before .before .args .a .now)) (budget-here (decode (c .before .before .before .before .before .before .args .a .now)) _ _ (c .before .before .before .before .find-budget .ensures) _ (c .before .before .i .given .1) .1)) _ refl
-    (ap (λ (x : Account). some (figures x)) (c .account-at .ensures ∙ sym (account-here (decode (c .before .before .before .before .before .before .args .a .now)) _ _ (budget-here (decode (c .before .before .before .before .before .before .args .a .now)) _ _ (c .before .before .before .before .find-budget .ensures) _ (c .before .before .i .given .1) .0)))) _
+    (ap (λ (x : Account). some (of-account x)) (c .account-at .ensures ∙ sym (account-here (decode (c .before .before .before .before .before .before .args .a .now)) _ _ (budget-here (decode (c .before .before .before .before .before .before .args .a .now)) _ _ (c .before .before .before .before .find-budget .ensures) _ (c .before .before .i .given .1) .0)))) _
     (unchanged _ (area-formed _ (c .before .before .before .before .before .before .pre))) (area-sound _ (c .before .before .before .before .before .before .pre))))  -- returns-2

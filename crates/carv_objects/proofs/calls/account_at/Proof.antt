@@ -1,7 +1,7 @@
 -- `carv_objects::calls::account_at` meets its contract. Assumes nothing.
 use borrow.Author.Needs.{needs}
 use mathlib.Core.Path.{ap}
-use Rattle.carv_registry.specs.declared.Entry.{Entry}
+use Rattle.carv_objects_spec.specs.declared.Entry.{Entry}
 use Rattle.carv_objects.proofs.calls.account_at.Statement.{statement}
 use Rattle.carv_objects.proofs.calls.account_at.Tie as tie
 

@@ -1,8 +1,8 @@
 -- `carv_objects::calls::book` meets its contract. Assumes nothing.
 use borrow.Author.Needs.{needs}
 use mathlib.Core.Path.{refl}
-use Rattle.carv_objects.specs.Formed.{leaves-as}
-use Rattle.carv_objects.specs.CallSteps.{moved-here, moved-charge}
+use Rattle.carv_objects.specs.laws.Formed.{leaves-as}
+use Rattle.carv_objects.specs.laws.CallSteps.{moved-here, moved-charge}
 use Rattle.carv_objects.specs.Area.{decode}
 use Rattle.carv_objects.proofs.calls.book.Statement.{statement}
 use Rattle.carv_objects.proofs.calls.book.Tie as tie

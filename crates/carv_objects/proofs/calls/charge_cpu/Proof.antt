@@ -1,11 +1,11 @@
 -- `carv_objects::calls::charge_cpu` meets its contract. Assumes nothing.
 use borrow.Author.Needs.{needs}
 use mathlib.Core.Path.{refl}
-use Rattle.carv_objects.specs.Formed.{leaves-as}
-use Rattle.carv_objects.specs.AreaSteps.{budget-here, budget-gone}
-use Rattle.carv_objects.specs.Calls.{area-sound, area-formed, account-at-sound, refused, refused-after, answered, booked-yes, booked-no, spend-left, spent-by, kept-at}
-use Rattle.carv_registry.specs.Questions.{charge-cpu-missing, charge-cpu-above, charge-cpu-done}
-use Rattle.carv_registry.specs.Kept.{charge-cpu-kept}
+use Rattle.carv_objects.specs.laws.Formed.{leaves-as}
+use Rattle.carv_objects.specs.laws.AreaSteps.{budget-here, budget-gone}
+use Rattle.carv_objects.specs.laws.Calls.{area-sound, area-formed, account-at-sound, refused, refused-after, answered, booked-yes, booked-no, spend-left, spent-by, kept-at}
+use Rattle.carv_objects_spec.specs.laws.Questions.{charge-cpu-missing, charge-cpu-above, charge-cpu-done}
+use Rattle.carv_objects_spec.specs.laws.Kept.{charge-cpu-kept}
 use Rattle.carv_objects.specs.Area.{decode}
 use Rattle.carv_objects.proofs.calls.charge_cpu.Statement.{statement}
 use Rattle.carv_objects.proofs.calls.charge_cpu.Tie as tie

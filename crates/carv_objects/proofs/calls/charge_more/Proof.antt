@@ -1,10 +1,10 @@
 -- `carv_objects::calls::charge_more` meets its contract. Assumes nothing.
 use borrow.Author.Needs.{needs}
-use Rattle.carv_objects.specs.AreaSteps.{located-here, located-gone, gone-has}
-use Rattle.carv_objects.specs.Calls.{area-sound, area-formed, refused, booked-yes, booked-no}
-use Rattle.carv_registry.specs.Questions.{charge-more-missing}
+use Rattle.carv_objects.specs.laws.AreaSteps.{located-here, located-gone, gone-has}
+use Rattle.carv_objects.specs.laws.Calls.{area-sound, area-formed, refused, booked-yes, booked-no}
+use Rattle.carv_objects_spec.specs.laws.Questions.{charge-more-missing}
 use native.Mathlib.Omega.{arith}
-use Rattle.carv_objects.specs.CallSteps.{payer-has, payer-sound, charge-fits, charge-more-refused, charge-more-served}
+use Rattle.carv_objects.specs.laws.CallSteps.{payer-has, payer-sound, charge-fits, charge-more-refused, charge-more-served}
 use Rattle.carv_objects.specs.Area.{decode}
 use Rattle.carv_objects.proofs.calls.charge_more.Statement.{statement}
 use Rattle.carv_objects.proofs.calls.charge_more.Tie as tie

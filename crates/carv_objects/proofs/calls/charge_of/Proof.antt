@@ -2,12 +2,12 @@
 use borrow.Author.Needs.{needs}
 use mathlib.Core.Path.{refl, sym, ap, _∙_}
 use mathlib.Core.Option.{some}
-use Rattle.carv_registry.specs.declared.Entry.{Entry}
-use Rattle.carv_registry.specs.Reply.{charge}
-use Rattle.carv_objects.specs.Formed.{unchanged}
-use Rattle.carv_objects.specs.AreaSteps.{located-here, located-gone, here-has, gone-has, here-entry}
-use Rattle.carv_objects.specs.Calls.{area-sound, area-formed, refused, answered}
-use Rattle.carv_registry.specs.Questions.{charge-of-missing, charge-of-done}
+use Rattle.carv_objects_spec.specs.declared.Entry.{Entry}
+use Rattle.carv_objects_spec.specs.Reply.{charge}
+use Rattle.carv_objects.specs.laws.Formed.{unchanged}
+use Rattle.carv_objects.specs.laws.AreaSteps.{located-here, located-gone, here-has, gone-has, here-entry}
+use Rattle.carv_objects.specs.laws.Calls.{area-sound, area-formed, refused, answered}
+use Rattle.carv_objects_spec.specs.laws.Questions.{charge-of-missing, charge-of-done}
 use Rattle.carv_objects.specs.Area.{decode}
 use Rattle.carv_objects.proofs.calls.charge_of.Statement.{statement}
 use Rattle.carv_objects.proofs.calls.charge_of.Tie as tie

@@ -4,14 +4,14 @@ use mathlib.Core.Path.{ap, sym, _∙_, subst}
 use mathlib.Core.Bool.{Bool, true, false, not, _||_}
 use Prim.Native.Nat.{ℕ}
 use Rattle.carv_objects.proofs.Rules.{said-not, said-so}
-use Rattle.carv_objects.specs.Formed.{leaves-as}
+use Rattle.carv_objects.specs.laws.Formed.{leaves-as}
 use Rattle.carv_objects.specs.declared.Answer.{Answer}
 use Rattle.carv_objects.specs.Answer.{number, value}
-use Rattle.carv_objects.specs.Kinds.{named-listed, named-unlisted, listed-code, bytes-named, creatable-named, backing-named}
-use Rattle.carv_objects.specs.AreaSteps.{budget-here, budget-gone}
-use Rattle.carv_objects.specs.Calls.{area-sound, area-formed, account-at-sound, refused, answered, booked-yes, booked-no, free-of, stored-of, kept-at}
-use Rattle.carv_registry.specs.Questions.{create-unlisted, create-full, create-payer, create-cover, create-method, create-backing, create-done}
-use Rattle.carv_registry.specs.Kept.{create-kept}
+use Rattle.carv_objects.specs.laws.Kinds.{named-listed, named-unlisted, listed-code, bytes-named, creatable-named, backing-named}
+use Rattle.carv_objects.specs.laws.AreaSteps.{budget-here, budget-gone}
+use Rattle.carv_objects.specs.laws.Calls.{area-sound, area-formed, account-at-sound, refused, answered, booked-yes, booked-no, free-of, stored-of, kept-at}
+use Rattle.carv_objects_spec.specs.laws.Questions.{create-unlisted, create-full, create-payer, create-cover, create-method, create-backing, create-done}
+use Rattle.carv_objects_spec.specs.laws.Kept.{create-kept}
 use Rattle.carv_objects.specs.Area.{decode}
 use Rattle.carv_objects.proofs.calls.create.Statement.{statement}
 use Rattle.carv_objects.proofs.calls.create.Tie as tie

@@ -1,16 +1,16 @@
 -- `carv_objects::calls::create_budget` meets its contract. Assumes nothing.
 use borrow.Author.Needs.{needs}
 use mathlib.Core.Path.{ap, sym}
-use Rattle.carv_budget.specs.Laws.{charge-sound}
+use Rattle.carv_budget.specs.laws.Account.{charge-sound}
 use borrow.Author.Tests.{leb-true}
 use Rattle.carv_objects.proofs.Rules.{said-not, said-so}
-use Rattle.carv_objects.specs.Formed.{leaves-as}
+use Rattle.carv_objects.specs.laws.Formed.{leaves-as}
 use Rattle.carv_objects.specs.declared.Answer.{Answer}
 use Rattle.carv_objects.specs.Answer.{number, value}
-use Rattle.carv_objects.specs.AreaSteps.{budget-here, budget-gone}
-use Rattle.carv_objects.specs.Calls.{area-sound, area-formed, account-at-sound, refused, refused-after, answered, booked-yes, booked-no, carved-yes, carved-no, free-here, charged-sound, carve-refused, carve-left, carve-memory, stored-budget, kept-at}
-use Rattle.carv_registry.specs.Questions.{create-budget-full, create-budget-payer, create-budget-cover, create-budget-carve, create-budget-done}
-use Rattle.carv_registry.specs.Kept.{create-budget-kept}
+use Rattle.carv_objects.specs.laws.AreaSteps.{budget-here, budget-gone}
+use Rattle.carv_objects.specs.laws.Calls.{area-sound, area-formed, account-at-sound, refused, refused-after, answered, booked-yes, booked-no, carved-yes, carved-no, free-here, charged-sound, carve-refused, carve-left, carve-memory, stored-budget, kept-at}
+use Rattle.carv_objects_spec.specs.laws.Questions.{create-budget-full, create-budget-payer, create-budget-cover, create-budget-carve, create-budget-done}
+use Rattle.carv_objects_spec.specs.laws.Kept.{create-budget-kept}
 use Rattle.carv_objects.specs.Area.{decode}
 use Rattle.carv_objects.proofs.calls.create_budget.Statement.{statement}
 use Rattle.carv_objects.proofs.calls.create_budget.Tie as tie

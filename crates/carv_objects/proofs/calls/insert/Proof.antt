@@ -2,11 +2,11 @@
 use borrow.Author.Needs.{needs}
 use Rattle.carv_objects.proofs.Rules.{said-not, said-so}
 use mathlib.Core.Path.{refl, ap}
-use Rattle.carv_objects.specs.Formed.{leaves-as}
-use Rattle.carv_objects.specs.AreaSteps.{budget-here, budget-gone}
-use Rattle.carv_objects.specs.Calls.{area-sound, area-formed, account-at-sound, refused, answered, booked-yes, booked-no, free-here, stored-plain, kept-at}
-use Rattle.carv_registry.specs.Questions.{insert-unlisted, insert-kind, insert-full, insert-payer, insert-cover, insert-done}
-use Rattle.carv_registry.specs.Kept.{insert-kept}
+use Rattle.carv_objects.specs.laws.Formed.{leaves-as}
+use Rattle.carv_objects.specs.laws.AreaSteps.{budget-here, budget-gone}
+use Rattle.carv_objects.specs.laws.Calls.{area-sound, area-formed, account-at-sound, refused, answered, booked-yes, booked-no, free-here, stored-plain, kept-at}
+use Rattle.carv_objects_spec.specs.laws.Questions.{insert-unlisted, insert-kind, insert-full, insert-payer, insert-cover, insert-done}
+use Rattle.carv_objects_spec.specs.laws.Kept.{insert-kept}
 use Rattle.carv_objects.specs.declared.Answer.{Answer}
 use Rattle.carv_objects.specs.Answer.{number, value}
 use Rattle.carv_objects.specs.Area.{decode}

@@ -1,7 +1,7 @@
 -- `carv_objects::calls::payer_place` meets its contract. Assumes nothing.
 use borrow.Author.Needs.{needs}
-use Rattle.carv_objects.specs.AreaSteps.{located-here}
-use Rattle.carv_objects.specs.CallSteps.{place-of}
+use Rattle.carv_objects.specs.laws.AreaSteps.{located-here}
+use Rattle.carv_objects.specs.laws.CallSteps.{place-of}
 use Rattle.carv_objects.specs.Area.{decode}
 use Rattle.carv_objects.proofs.calls.payer_place.Statement.{statement}
 use Rattle.carv_objects.proofs.calls.payer_place.Tie as tie

@@ -1,7 +1,7 @@
 -- `carv_objects::calls::pays_at` meets its contract. Assumes nothing.
 use borrow.Author.Needs.{needs}
 use mathlib.Core.Path.{sym, _∙_}
-use Rattle.carv_objects.specs.CallSteps.{pays-self, pays-other, pays-there}
+use Rattle.carv_objects.specs.laws.CallSteps.{pays-self, pays-other, pays-there}
 use Rattle.carv_objects.proofs.calls.pays_at.Statement.{statement}
 use Rattle.carv_objects.proofs.calls.pays_at.Tie as tie
 

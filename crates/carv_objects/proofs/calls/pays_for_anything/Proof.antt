@@ -2,8 +2,8 @@
 use mathlib.Core.Path.{refl, sym, ap, _∙_}
 use mathlib.Core.Bool.{Bool}
 use mathlib.Core.Option.{some}
-use Rattle.carv_registry.specs.Reply.{pays}
-use Rattle.carv_objects.specs.Calls.{area-formed, read-serves}
+use Rattle.carv_objects_spec.specs.Reply.{pays}
+use Rattle.carv_objects.specs.laws.Calls.{area-formed, read-serves}
 use Rattle.carv_objects.proofs.calls.pays_for_anything.Statement.{statement}
 use Rattle.carv_objects.proofs.calls.pays_for_anything.Tie as tie
 

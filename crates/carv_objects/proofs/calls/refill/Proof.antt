@@ -3,15 +3,15 @@ use borrow.Author.Needs.{needs}
 use mathlib.Core.Path.{ap, _∙_}
 use mathlib.Core.Option.{Option, some}
 use mathlib.Core.Bool.{Bool}
-use Rattle.carv_objects.specs.Formed.{leaves-as}
+use Rattle.carv_objects.specs.laws.Formed.{leaves-as}
 use Rattle.carv_objects.specs.declared.Answer.{Answer}
-use Rattle.carv_registry.specs.Reply.{Value, renewed}
+use Rattle.carv_objects_spec.specs.Reply.{Value, renewed}
 use Rattle.carv_objects.specs.Answer.{number, value}
-use Rattle.carv_objects.specs.AreaSteps.{budget-here, budget-gone}
-use Rattle.carv_objects.specs.Booked.{renew-is, refill-answer}
-use Rattle.carv_objects.specs.Calls.{area-sound, area-formed, account-at-sound, refused, answered, renewed-by, due-here, kept-at}
-use Rattle.carv_registry.specs.Questions.{refill-missing, refill-done}
-use Rattle.carv_registry.specs.Kept.{refill-kept}
+use Rattle.carv_objects.specs.laws.AreaSteps.{budget-here, budget-gone}
+use Rattle.carv_objects.specs.laws.Booked.{renew-is, refill-answer}
+use Rattle.carv_objects.specs.laws.Calls.{area-sound, area-formed, account-at-sound, refused, answered, renewed-by, due-here, kept-at}
+use Rattle.carv_objects_spec.specs.laws.Questions.{refill-missing, refill-done}
+use Rattle.carv_objects_spec.specs.laws.Kept.{refill-kept}
 use Rattle.carv_objects.specs.Area.{decode}
 use Rattle.carv_objects.proofs.calls.refill.Statement.{statement}
 use Rattle.carv_objects.proofs.calls.refill.Tie as tie

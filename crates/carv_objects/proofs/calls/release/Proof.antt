@@ -1,8 +1,8 @@
 -- `carv_objects::calls::release` meets its contract. Assumes nothing.
 use borrow.Author.Needs.{needs}
 use mathlib.Core.Path.{refl}
-use Rattle.carv_objects.specs.Formed.{leaves-as}
-use Rattle.carv_objects.specs.CallSteps.{moved-within, moved-out}
+use Rattle.carv_objects.specs.laws.Formed.{leaves-as}
+use Rattle.carv_objects.specs.laws.CallSteps.{moved-within, moved-out}
 use Rattle.carv_objects.specs.Area.{decode}
 use Rattle.carv_objects.proofs.calls.release.Statement.{statement}
 use Rattle.carv_objects.proofs.calls.release.Tie as tie

@@ -1,11 +1,11 @@
 -- `carv_objects::calls::remove` meets its contract. Assumes nothing.
 use borrow.Author.Needs.{needs}
 use mathlib.Core.Path.{sym, _∙_}
-use Rattle.carv_objects.specs.AreaSteps.{located-here, located-gone, gone-has, here-has}
-use Rattle.carv_objects.specs.Calls.{area-sound, area-formed, refused, booked-yes, booked-no}
-use Rattle.carv_registry.specs.Questions.{remove-missing, remove-root}
+use Rattle.carv_objects.specs.laws.AreaSteps.{located-here, located-gone, gone-has, here-has}
+use Rattle.carv_objects.specs.laws.Calls.{area-sound, area-formed, refused, booked-yes, booked-no}
+use Rattle.carv_objects_spec.specs.laws.Questions.{remove-missing, remove-root}
 use native.Mathlib.Omega.{arith}
-use Rattle.carv_objects.specs.CallSteps.{payer-has, payer-sound, child-sound, credit-asks, returned-asks, remove-plain, remove-in-use, remove-refused, remove-served}
+use Rattle.carv_objects.specs.laws.CallSteps.{payer-has, payer-sound, child-sound, credit-asks, returned-asks, remove-plain, remove-in-use, remove-refused, remove-served}
 use Rattle.carv_objects.specs.Area.{decode}
 use Rattle.carv_objects.proofs.calls.remove.Statement.{statement}
 use Rattle.carv_objects.proofs.calls.remove.Tie as tie

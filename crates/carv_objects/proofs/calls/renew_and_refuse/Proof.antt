@@ -1,8 +1,8 @@
 -- `carv_objects::calls::renew_and_refuse` meets its contract. Assumes nothing.
 use borrow.Author.Needs.{needs}
 use mathlib.Core.Path.{refl}
-use Rattle.carv_objects.specs.Formed.{leaves-as}
-use Rattle.carv_objects.specs.Calls.{renewed-by}
+use Rattle.carv_objects.specs.laws.Formed.{leaves-as}
+use Rattle.carv_objects.specs.laws.Calls.{renewed-by}
 use Rattle.carv_objects.specs.Area.{decode}
 use Rattle.carv_objects.proofs.calls.renew_and_refuse.Statement.{statement}
 use Rattle.carv_objects.proofs.calls.renew_and_refuse.Tie as tie

@@ -1,7 +1,7 @@
 -- `carv_objects::calls::store` meets its contract. Assumes nothing.
 use borrow.Author.Needs.{needs}
-use Rattle.carv_objects.specs.Formed.{leaves-as}
-use Rattle.carv_objects.specs.Calls.{store-room, store-next, store-same}
+use Rattle.carv_objects.specs.laws.Formed.{leaves-as}
+use Rattle.carv_objects.specs.laws.Calls.{store-room, store-next, store-same}
 use Rattle.carv_objects.specs.Area.{decode}
 use Rattle.carv_objects.proofs.calls.store.Statement.{statement}
 use Rattle.carv_objects.proofs.calls.store.Tie as tie

@@ -1,9 +1,9 @@
 -- `carv_objects::calls::uncharge` meets its contract. Assumes nothing.
 use borrow.Author.Needs.{needs}
-use Rattle.carv_objects.specs.AreaSteps.{located-here, located-gone, gone-has}
-use Rattle.carv_objects.specs.Calls.{area-sound, area-formed, refused}
-use Rattle.carv_registry.specs.Questions.{uncharge-missing}
-use Rattle.carv_objects.specs.CallSteps.{payer-has, credit-asks, uncharge-refused, uncharge-served}
+use Rattle.carv_objects.specs.laws.AreaSteps.{located-here, located-gone, gone-has}
+use Rattle.carv_objects.specs.laws.Calls.{area-sound, area-formed, refused}
+use Rattle.carv_objects_spec.specs.laws.Questions.{uncharge-missing}
+use Rattle.carv_objects.specs.laws.CallSteps.{payer-has, credit-asks, uncharge-refused, uncharge-served}
 use Rattle.carv_objects.specs.Area.{decode}
 use Rattle.carv_objects.proofs.calls.uncharge.Statement.{statement}
 use Rattle.carv_objects.proofs.calls.uncharge.Tie as tie

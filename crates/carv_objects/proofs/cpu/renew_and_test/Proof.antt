@@ -1,8 +1,8 @@
 -- `carv_objects::cpu::renew_and_test` meets its contract. Assumes nothing.
 use borrow.Author.Needs.{needs}
-use Rattle.carv_objects.specs.AreaSteps.{budget-here, budget-gone}
-use Rattle.carv_objects.specs.Calls.{area-formed, account-at-sound}
-use Rattle.carv_objects.specs.Cpu.{not-renewed, cpu-none, cpu-some, renewed-is, renews}
+use Rattle.carv_objects.specs.laws.AreaSteps.{budget-here, budget-gone}
+use Rattle.carv_objects.specs.laws.Calls.{area-formed, account-at-sound}
+use Rattle.carv_objects.specs.laws.Cpu.{not-renewed, cpu-none, cpu-some, renewed-is, renews}
 use Rattle.carv_objects.specs.Area.{decode}
 use Rattle.carv_objects.proofs.cpu.renew_and_test.Statement.{statement}
 use Rattle.carv_objects.proofs.cpu.renew_and_test.Tie as tie

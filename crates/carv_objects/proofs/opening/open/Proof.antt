@@ -1,7 +1,7 @@
 -- `carv_objects::opening::open` meets its contract. Assumes nothing.
 use borrow.Author.Needs.{needs}
-use Rattle.carv_objects.specs.Calls.{booked-yes, booked-no}
-use Rattle.carv_objects.specs.Opening.{open-size, open-share, open-done}
+use Rattle.carv_objects.specs.laws.Calls.{booked-yes, booked-no}
+use Rattle.carv_objects.specs.laws.Opening.{open-size, open-share, open-done}
 use Rattle.carv_objects.proofs.opening.open.Statement.{statement}
 use Rattle.carv_objects.proofs.opening.open.Tie as tie
 

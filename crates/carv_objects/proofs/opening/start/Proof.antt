@@ -1,7 +1,7 @@
 -- `carv_objects::opening::start` meets its contract. Assumes nothing.
 use borrow.Author.Needs.{needs}
 use mathlib.Core.Path.{_∙_}
-use Rattle.carv_objects.specs.Opening.{start-formed}
+use Rattle.carv_objects.specs.laws.Opening.{start-formed}
 use Rattle.carv_objects.proofs.opening.start.Statement.{statement}
 use Rattle.carv_objects.proofs.opening.start.Tie as tie
 

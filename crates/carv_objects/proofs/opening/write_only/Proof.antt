@@ -1,7 +1,7 @@
 -- `carv_objects::opening::write_only` meets its contract. Assumes nothing.
 use borrow.Author.Needs.{needs}
 use mathlib.Core.Path.{refl}
-use Rattle.carv_objects.specs.Opening.{cleared-stored, cleared-room, only-row}
+use Rattle.carv_objects.specs.laws.Opening.{cleared-stored, cleared-room, only-row}
 use Rattle.carv_objects.proofs.opening.write_only.Statement.{statement}
 use Rattle.carv_objects.proofs.opening.write_only.Tie as tie
 

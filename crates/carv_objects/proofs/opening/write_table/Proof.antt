@@ -1,8 +1,8 @@
 -- `carv_objects::opening::write_table` meets its contract. Assumes nothing.
 use borrow.Author.Needs.{needs}
 use mathlib.Core.Path.{_∙_}
-use Rattle.carv_objects.specs.Formed.{length-table}
-use Rattle.carv_objects.specs.Opening.{table-put}
+use Rattle.carv_objects.specs.laws.Formed.{length-table}
+use Rattle.carv_objects.specs.laws.Opening.{table-put}
 use Rattle.carv_objects.proofs.opening.write_table.Statement.{statement}
 use Rattle.carv_objects.proofs.opening.write_table.Tie as tie
 

@@ -1,6 +1,6 @@
 -- `carv_objects::rows::append_entry` meets its contract. Assumes nothing.
 use borrow.Author.Needs.{needs}
-use Rattle.carv_objects.specs.AreaSteps.{appended}
+use Rattle.carv_objects.specs.laws.AreaSteps.{appended}
 use Rattle.carv_objects.proofs.rows.append_entry.Statement.{statement}
 use Rattle.carv_objects.proofs.rows.append_entry.Tie as tie
 

@@ -1,7 +1,7 @@
 -- `carv_objects::rows::write_account` meets its contract. Assumes nothing.
 use borrow.Author.Needs.{needs}
 use native.Mathlib.Numerals.{towards-numerals}
-use Rattle.carv_objects.specs.Rows.{set-account}
+use Rattle.carv_objects.specs.laws.Rows.{set-account}
 use Rattle.carv_objects.proofs.rows.write_account.Statement.{statement}
 use Rattle.carv_objects.proofs.rows.write_account.Tie as tie
 

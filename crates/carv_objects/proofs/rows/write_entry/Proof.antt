@@ -1,6 +1,6 @@
 -- `carv_objects::rows::write_entry` meets its contract. Assumes nothing.
 use borrow.Author.Needs.{needs}
-use Rattle.carv_objects.specs.Rows.{row-set}
+use Rattle.carv_objects.specs.laws.Rows.{row-set}
 use Rattle.carv_objects.proofs.rows.write_entry.Statement.{statement}
 use Rattle.carv_objects.proofs.rows.write_entry.Tie as tie
 

@@ -1,7 +1,7 @@
 -- `carv_objects::sound::is_sound` meets its contract: specs/SoundBridge.antt. Assumes nothing.
 use native.Mathlib.Omega.{arith}
 use Rattle.carv_objects.specs.Area.{table}
-use Rattle.carv_objects.specs.SoundBridge.{asked-size, asked}
+use Rattle.carv_objects.specs.laws.SoundBridge.{asked-size, asked}
 use borrow.Author.Needs.{needs}
 use Rattle.carv_objects.proofs.sound.is_sound.Statement.{statement}
 use Rattle.carv_objects.proofs.sound.is_sound.Tie as tie

@@ -3,8 +3,8 @@ use native.Mathlib.Omega.{arith}
 use mathlib.Core.Path.{_≡_, refl, ap}
 use Prim.Native.Nat.{ℕ, _-_}
 use Rattle.carv_area.specs.Words.{words}
-use Rattle.carv_objects.specs.SoundWalk.{id-at, entry-at}
-use Rattle.carv_objects.specs.SoundTurn.{front-rise, rise-inj}
+use Rattle.carv_objects.specs.laws.SoundWalk.{id-at, entry-at}
+use Rattle.carv_objects.specs.laws.SoundTurn.{front-rise, rise-inj}
 use borrow.Author.Needs.{needs}
 use Rattle.carv_objects.proofs.sound.owner.Statement.{statement}
 use Rattle.carv_objects.proofs.sound.owner.Tie as tie

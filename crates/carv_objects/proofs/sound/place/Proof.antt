@@ -4,7 +4,7 @@ use native.Mathlib.Omega.{arith}
 use mathlib.Core.Logic.{⊎-elim}
 use Prim.Native.Nat.{_/_}
 use Rattle.carv_area.specs.Words.{words}
-use Rattle.carv_objects.specs.SoundPlace.{Near, near, near-up, near-down, near-past, near-other}
+use Rattle.carv_objects.specs.laws.SoundPlace.{Near, near, near-up, near-down, near-past, near-other}
 use borrow.Author.Needs.{needs}
 use Rattle.carv_objects.proofs.sound.place.Statement.{statement}
 use Rattle.carv_objects.proofs.sound.place.Tie as tie

@@ -4,7 +4,7 @@ use mathlib.Core.Bool.{false≢true}
 use mathlib.Core.Path.{_∙_}
 use lib.ListN.{length-set}
 use borrow.Author.Tests.{not-true, not-false}
-use Rattle.carv_objects.specs.SoundTurn.{front, used-on, used-off, memory-on, memory-off, cpu-on, cpu-off}
+use Rattle.carv_objects.specs.laws.SoundTurn.{front, used-on, used-off, memory-on, memory-off, cpu-on, cpu-off}
 use borrow.Author.Needs.{needs}
 use Rattle.carv_objects.proofs.sound.turn.Statement.{statement}
 use Rattle.carv_objects.proofs.sound.turn.Tie as tie

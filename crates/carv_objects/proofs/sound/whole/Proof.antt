@@ -6,8 +6,8 @@ use Prim.Native.Nat.{_≤_, _-_}
 use lib.ListN.{getD}
 use borrow.Author.Tests.{not-true, not-false}
 use Rattle.carv_area.specs.Words.{words}
-use Rattle.carv_objects.specs.SoundWalk.{Walk}
-use Rattle.carv_objects.specs.SoundTurn.{walk-none, used-zero, memory-zero, cpu-zero, ended}
+use Rattle.carv_objects.specs.laws.SoundWalk.{Walk}
+use Rattle.carv_objects.specs.laws.SoundTurn.{walk-none, used-zero, memory-zero, cpu-zero, ended}
 use borrow.Author.Needs.{needs}
 use Rattle.carv_objects.proofs.sound.whole.Statement.{statement}
 use Rattle.carv_objects.proofs.sound.whole.Tie as tie

@@ -2,8 +2,8 @@
 use borrow.Author.Needs.{needs}
 use mathlib.Core.Path.{_∙_, refl}
 use Rattle.carv_scheduler.specs.Area.{threads-part}
-use Rattle.carv_scheduler.specs.AreaSteps.{length-threads, thread-room}
-use Rattle.carv_scheduler.specs.RowWords.{thread-ticked}
+use Rattle.carv_scheduler.specs.laws.AreaSteps.{length-threads, thread-room}
+use Rattle.carv_scheduler.specs.laws.RowWords.{thread-ticked}
 use Rattle.carv_scheduler.proofs.area.add_tick.Statement.{statement}
 use Rattle.carv_scheduler.proofs.area.add_tick.Tie as tie
 

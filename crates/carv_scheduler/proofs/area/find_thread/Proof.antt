@@ -1,7 +1,7 @@
 -- `carv_scheduler::area::find_thread` meets its contract. Assumes nothing.
 use borrow.Author.Needs.{needs}
 use Rattle.carv_scheduler.specs.Area.{threads-part}
-use Rattle.carv_scheduler.specs.AreaSteps.{threads-keyed, thread-found}
+use Rattle.carv_scheduler.specs.laws.AreaSteps.{threads-keyed, thread-found}
 use Rattle.carv_scheduler.proofs.area.find_thread.Statement.{statement}
 use Rattle.carv_scheduler.proofs.area.find_thread.Tie as tie
 

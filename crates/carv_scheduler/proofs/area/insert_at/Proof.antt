@@ -2,7 +2,7 @@
 use borrow.Author.Needs.{needs}
 use mathlib.Core.Path.{_∙_}
 use Rattle.carv_scheduler.specs.Area.{threads-part}
-use Rattle.carv_scheduler.specs.AreaSteps.{length-threads, threads-space, place-counted, thread-inserted}
+use Rattle.carv_scheduler.specs.laws.AreaSteps.{length-threads, threads-space, place-counted, thread-inserted}
 use Rattle.carv_scheduler.proofs.area.insert_at.Statement.{statement}
 use Rattle.carv_scheduler.proofs.area.insert_at.Tie as tie
 

@@ -4,7 +4,7 @@ use native.Mathlib.Omega.{arith}
 use mathlib.Core.Path.{_∙_}
 use Rattle.carv_area.specs.Stored.{queue-at}
 use Rattle.carv_scheduler.specs.Area.{queue-part}
-use Rattle.carv_scheduler.specs.AreaSteps.{queue-room}
+use Rattle.carv_scheduler.specs.laws.AreaSteps.{queue-room}
 use Rattle.carv_scheduler.proofs.area.queue_at.Statement.{statement}
 use Rattle.carv_scheduler.proofs.area.queue_at.Tie as tie
 

@@ -1,7 +1,7 @@
 -- `carv_scheduler::area::queue_length` meets its contract. Assumes nothing.
 use borrow.Author.Needs.{needs}
 use Rattle.carv_scheduler.specs.Area.{queue-part}
-use Rattle.carv_scheduler.specs.AreaSteps.{queue-count}
+use Rattle.carv_scheduler.specs.laws.AreaSteps.{queue-count}
 use Rattle.carv_scheduler.proofs.area.queue_length.Statement.{statement}
 use Rattle.carv_scheduler.proofs.area.queue_length.Tie as tie
 

@@ -2,8 +2,8 @@
 use borrow.Author.Needs.{needs}
 use mathlib.Core.Path.{_∙_}
 use Rattle.carv_scheduler.specs.Area.{queue-part}
-use Rattle.carv_scheduler.specs.Formed.{queue-written}
-use Rattle.carv_scheduler.specs.AreaSteps.{length-queue}
+use Rattle.carv_scheduler.specs.laws.Formed.{queue-written}
+use Rattle.carv_scheduler.specs.laws.AreaSteps.{length-queue}
 use Rattle.carv_scheduler.proofs.area.queue_pull.Statement.{statement}
 use Rattle.carv_scheduler.proofs.area.queue_pull.Tie as tie
 

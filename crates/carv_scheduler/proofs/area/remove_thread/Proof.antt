@@ -2,7 +2,7 @@
 use borrow.Author.Needs.{needs}
 use mathlib.Core.Path.{_∙_}
 use Rattle.carv_scheduler.specs.Area.{threads-part}
-use Rattle.carv_scheduler.specs.AreaSteps.{length-threads, threads-room, thread-counted, thread-removed}
+use Rattle.carv_scheduler.specs.laws.AreaSteps.{length-threads, threads-room, thread-counted, thread-removed}
 use Rattle.carv_scheduler.proofs.area.remove_thread.Statement.{statement}
 use Rattle.carv_scheduler.proofs.area.remove_thread.Tie as tie
 

@@ -2,7 +2,7 @@
 use borrow.Author.Needs.{needs}
 use mathlib.Core.Path.{_∙_, refl}
 use Rattle.carv_scheduler.specs.Area.{head}
-use Rattle.carv_scheduler.specs.AreaSteps.{length-head, head-set}
+use Rattle.carv_scheduler.specs.laws.AreaSteps.{length-head, head-set}
 use Rattle.carv_scheduler.proofs.area.set_head.Statement.{statement}
 use Rattle.carv_scheduler.proofs.area.set_head.Tie as tie
 

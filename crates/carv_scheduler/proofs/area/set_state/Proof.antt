@@ -2,8 +2,8 @@
 use borrow.Author.Needs.{needs}
 use mathlib.Core.Path.{_∙_}
 use Rattle.carv_scheduler.specs.Area.{threads-part}
-use Rattle.carv_scheduler.specs.AreaSteps.{length-threads, thread-room}
-use Rattle.carv_scheduler.specs.RowWords.{thread-state}
+use Rattle.carv_scheduler.specs.laws.AreaSteps.{length-threads, thread-room}
+use Rattle.carv_scheduler.specs.laws.RowWords.{thread-state}
 use Rattle.carv_scheduler.proofs.area.set_state.Statement.{statement}
 use Rattle.carv_scheduler.proofs.area.set_state.Tie as tie
 

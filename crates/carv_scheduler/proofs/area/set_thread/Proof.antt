@@ -2,7 +2,7 @@
 use borrow.Author.Needs.{needs}
 use mathlib.Core.Path.{_∙_}
 use Rattle.carv_scheduler.specs.Area.{threads-part}
-use Rattle.carv_scheduler.specs.AreaSteps.{length-threads, thread-room, thread-set}
+use Rattle.carv_scheduler.specs.laws.AreaSteps.{length-threads, thread-room, thread-set}
 use Rattle.carv_scheduler.proofs.area.set_thread.Statement.{statement}
 use Rattle.carv_scheduler.proofs.area.set_thread.Tie as tie
 

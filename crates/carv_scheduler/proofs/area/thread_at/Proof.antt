@@ -1,7 +1,7 @@
 -- `carv_scheduler::area::thread_at` meets its contract. Assumes nothing.
 use borrow.Author.Needs.{needs}
 use Rattle.carv_scheduler.specs.Area.{threads-part}
-use Rattle.carv_scheduler.specs.AreaSteps.{thread-room, thread-is}
+use Rattle.carv_scheduler.specs.laws.AreaSteps.{thread-room, thread-is}
 use Rattle.carv_scheduler.proofs.area.thread_at.Statement.{statement}
 use Rattle.carv_scheduler.proofs.area.thread_at.Tie as tie
 

@@ -1,7 +1,7 @@
 -- `carv_scheduler::area::thread_count` meets its contract. Assumes nothing.
 use borrow.Author.Needs.{needs}
 use Rattle.carv_scheduler.specs.Area.{threads-part}
-use Rattle.carv_scheduler.specs.AreaSteps.{threads-count}
+use Rattle.carv_scheduler.specs.laws.AreaSteps.{threads-count}
 use Rattle.carv_scheduler.proofs.area.thread_count.Statement.{statement}
 use Rattle.carv_scheduler.proofs.area.thread_count.Tie as tie
 

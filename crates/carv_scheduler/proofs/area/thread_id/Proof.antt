@@ -2,7 +2,7 @@
 use borrow.Author.Needs.{needs}
 use native.Mathlib.Omega.{arith}
 use Rattle.carv_scheduler.specs.Area.{threads-part}
-use Rattle.carv_scheduler.specs.AreaSteps.{thread-room, thread-id-is}
+use Rattle.carv_scheduler.specs.laws.AreaSteps.{thread-room, thread-id-is}
 use Rattle.carv_scheduler.proofs.area.thread_id.Statement.{statement}
 use Rattle.carv_scheduler.proofs.area.thread_id.Tie as tie
 

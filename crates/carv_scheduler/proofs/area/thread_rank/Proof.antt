@@ -1,7 +1,7 @@
 -- `carv_scheduler::area::thread_rank` meets its contract. Assumes nothing.
 use borrow.Author.Needs.{needs}
 use Rattle.carv_scheduler.specs.Area.{threads-part}
-use Rattle.carv_scheduler.specs.AreaSteps.{threads-keyed, thread-placed}
+use Rattle.carv_scheduler.specs.laws.AreaSteps.{threads-keyed, thread-placed}
 use Rattle.carv_scheduler.proofs.area.thread_rank.Statement.{statement}
 use Rattle.carv_scheduler.proofs.area.thread_rank.Tie as tie
 

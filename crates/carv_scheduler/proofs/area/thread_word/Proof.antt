@@ -2,8 +2,8 @@
 use borrow.Author.Needs.{needs}
 use native.Mathlib.Omega.{arith}
 use Rattle.carv_scheduler.specs.Area.{threads-part}
-use Rattle.carv_scheduler.specs.AreaSteps.{thread-room}
-use Rattle.carv_scheduler.specs.RowWords.{word-is}
+use Rattle.carv_scheduler.specs.laws.AreaSteps.{thread-room}
+use Rattle.carv_scheduler.specs.laws.RowWords.{word-is}
 use Rattle.carv_scheduler.proofs.area.thread_word.Statement.{statement}
 use Rattle.carv_scheduler.proofs.area.thread_word.Tie as tie
 

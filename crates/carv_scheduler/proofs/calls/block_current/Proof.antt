@@ -2,12 +2,12 @@
 use borrow.Author.Needs.{needs}
 use mathlib.Core.Path.{refl, sym, _∙_}
 use Rattle.carv_objects.proofs.Rules.{said-not, said-so}
-use Rattle.carv_board.specs.Kept.{block-current-kept}
-use Rattle.carv_scheduler.specs.Formed.{leaves-as}
-use Rattle.carv_scheduler.specs.AreaLaws.{area-formed, area-sound}
-use Rattle.carv_scheduler.specs.Calls.{refused, answered}
-use Rattle.carv_scheduler.specs.CallSteps.{here-is, here-not, blocked-current}
-use Rattle.carv_board.specs.Questions.{block-unlisted, block-other, block-idle, block-done}
+use Rattle.carv_scheduler_spec.specs.laws.Kept.{block-current-kept}
+use Rattle.carv_scheduler.specs.laws.Formed.{leaves-as}
+use Rattle.carv_scheduler.specs.laws.AreaLaws.{area-formed, area-sound}
+use Rattle.carv_scheduler.specs.laws.Calls.{refused, answered}
+use Rattle.carv_scheduler.specs.laws.CallSteps.{here-is, here-not, blocked-current}
+use Rattle.carv_scheduler_spec.specs.laws.Questions.{block-unlisted, block-other, block-idle, block-done}
 use Rattle.carv_scheduler.specs.Area.{decode}
 use Rattle.carv_scheduler.proofs.calls.block_current.Statement.{statement}
 use Rattle.carv_scheduler.proofs.calls.block_current.Tie as tie

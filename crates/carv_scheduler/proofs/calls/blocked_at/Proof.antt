@@ -1,5 +1,5 @@
 -- `carv_scheduler::calls::blocked_at` meets its contract. Assumes nothing.
-use Rattle.carv_scheduler.specs.CallSteps.{blocked-not, blocked-kind, blocked-number, blocked-yes}
+use Rattle.carv_scheduler.specs.laws.CallSteps.{blocked-not, blocked-kind, blocked-number, blocked-yes}
 use Rattle.carv_scheduler.proofs.calls.blocked_at.Statement.{statement}
 use Rattle.carv_scheduler.proofs.calls.blocked_at.Tie as tie
 

@@ -3,12 +3,12 @@ use borrow.Author.Needs.{needs}
 use mathlib.Core.Path.{refl, sym, _∙_}
 use native.Mathlib.Omega.{arith}
 use borrow.Author.Tests.{not-true, not-false}
-use Rattle.carv_board.specs.Kept.{create-user-thread-kept}
-use Rattle.carv_scheduler.specs.Formed.{leaves-as}
-use Rattle.carv_scheduler.specs.AreaLaws.{area-formed, area-sound}
-use Rattle.carv_scheduler.specs.Calls.{refused, answered}
-use Rattle.carv_scheduler.specs.CallSteps.{new-id, created-is}
-use Rattle.carv_board.specs.Questions.{create-known, create-first, create-idle, create-full, create-stack, create-done}
+use Rattle.carv_scheduler_spec.specs.laws.Kept.{create-user-thread-kept}
+use Rattle.carv_scheduler.specs.laws.Formed.{leaves-as}
+use Rattle.carv_scheduler.specs.laws.AreaLaws.{area-formed, area-sound}
+use Rattle.carv_scheduler.specs.laws.Calls.{refused, answered}
+use Rattle.carv_scheduler.specs.laws.CallSteps.{new-id, created-is}
+use Rattle.carv_scheduler_spec.specs.laws.Questions.{create-known, create-first, create-idle, create-full, create-stack, create-done}
 use Rattle.carv_scheduler.specs.Area.{decode}
 use Rattle.carv_scheduler.proofs.calls.create_user_thread.Statement.{statement}
 use Rattle.carv_scheduler.proofs.calls.create_user_thread.Tie as tie

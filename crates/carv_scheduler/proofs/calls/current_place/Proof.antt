@@ -1,7 +1,7 @@
 -- `carv_scheduler::calls::current_place` meets its contract. Assumes nothing.
 use borrow.Author.Needs.{needs}
-use Rattle.carv_scheduler.specs.AreaLaws.{area-formed, area-sound}
-use Rattle.carv_scheduler.specs.CallSteps.{current-found, current-missed}
+use Rattle.carv_scheduler.specs.laws.AreaLaws.{area-formed, area-sound}
+use Rattle.carv_scheduler.specs.laws.CallSteps.{current-found, current-missed}
 use Rattle.carv_scheduler.specs.Area.{decode}
 use Rattle.carv_scheduler.proofs.calls.current_place.Statement.{statement}
 use Rattle.carv_scheduler.proofs.calls.current_place.Tie as tie

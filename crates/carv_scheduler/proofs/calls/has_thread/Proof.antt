@@ -1,6 +1,6 @@
 -- `carv_scheduler::calls::has_thread` meets its contract. Assumes nothing.
 use borrow.Author.Needs.{needs}
-use Rattle.carv_scheduler.specs.CallSteps.{found-has, missed-has}
+use Rattle.carv_scheduler.specs.laws.CallSteps.{found-has, missed-has}
 use Rattle.carv_scheduler.specs.Area.{decode}
 use Rattle.carv_scheduler.proofs.calls.has_thread.Statement.{statement}
 use Rattle.carv_scheduler.proofs.calls.has_thread.Tie as tie

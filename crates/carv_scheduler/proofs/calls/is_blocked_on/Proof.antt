@@ -3,11 +3,11 @@ use borrow.Author.Needs.{needs}
 use mathlib.Core.Path.{refl, sym, _∙_}
 use mathlib.Core.Bool.{true, false}
 use Rattle.carv_objects.proofs.Rules.{said-not, said-so}
-use Rattle.carv_scheduler.specs.AreaLaws.{area-formed}
-use Rattle.carv_scheduler.specs.Calls.{refused, read-serves}
-use Rattle.carv_scheduler.specs.Places.{found-here, found-gone, here-has, gone-has}
-use Rattle.carv_scheduler.specs.CallSteps.{blocked-at}
-use Rattle.carv_board.specs.Questions.{blocked-unlisted, blocked-missing, blocked-told}
+use Rattle.carv_scheduler.specs.laws.AreaLaws.{area-formed}
+use Rattle.carv_scheduler.specs.laws.Calls.{refused, read-serves}
+use Rattle.carv_scheduler.specs.laws.Places.{found-here, found-gone, here-has, gone-has}
+use Rattle.carv_scheduler.specs.laws.CallSteps.{blocked-at}
+use Rattle.carv_scheduler_spec.specs.laws.Questions.{blocked-unlisted, blocked-missing, blocked-told}
 use Rattle.carv_scheduler.specs.Area.{decode}
 use Rattle.carv_scheduler.proofs.calls.is_blocked_on.Statement.{statement}
 use Rattle.carv_scheduler.proofs.calls.is_blocked_on.Tie as tie

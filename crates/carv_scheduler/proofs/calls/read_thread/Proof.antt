@@ -2,12 +2,12 @@
 use borrow.Author.Needs.{needs}
 use mathlib.Core.Path.{refl, sym, _∙_, ap}
 use mathlib.Core.Option.{some}
-use Rattle.carv_board.specs.declared.Thread.{Thread}
-use Rattle.carv_board.specs.Scheduler.{record-of}
-use Rattle.carv_scheduler.specs.AreaLaws.{area-formed}
-use Rattle.carv_scheduler.specs.Calls.{refused, read-serves}
-use Rattle.carv_scheduler.specs.Places.{found-here, found-gone, here-has, here-thread, gone-has}
-use Rattle.carv_board.specs.Questions.{read-missing, read-done}
+use Rattle.carv_scheduler_spec.specs.declared.Thread.{Thread}
+use Rattle.carv_scheduler_spec.specs.Scheduler.{record-of}
+use Rattle.carv_scheduler.specs.laws.AreaLaws.{area-formed}
+use Rattle.carv_scheduler.specs.laws.Calls.{refused, read-serves}
+use Rattle.carv_scheduler.specs.laws.Places.{found-here, found-gone, here-has, here-thread, gone-has}
+use Rattle.carv_scheduler_spec.specs.laws.Questions.{read-missing, read-done}
 use Rattle.carv_scheduler.specs.Area.{decode}
 use Rattle.carv_scheduler.proofs.calls.read_thread.Statement.{statement}
 use Rattle.carv_scheduler.proofs.calls.read_thread.Tie as tie

@@ -1,13 +1,13 @@
 -- `carv_scheduler::calls::start` meets its contract. Assumes nothing.
 use borrow.Author.Needs.{needs}
 use mathlib.Core.Path.{refl}
-use Rattle.carv_board.specs.Kept.{start-kept}
-use Rattle.carv_scheduler.specs.Formed.{leaves-as}
-use Rattle.carv_scheduler.specs.AreaLaws.{area-formed, area-sound}
-use Rattle.carv_scheduler.specs.Calls.{refused, answered}
-use Rattle.carv_scheduler.specs.Places.{found-here, found-gone, here-has, gone-has}
-use Rattle.carv_scheduler.specs.CallSteps.{here-is, here-not, start-room, started-is}
-use Rattle.carv_board.specs.Questions.{start-missing, start-other, start-done}
+use Rattle.carv_scheduler_spec.specs.laws.Kept.{start-kept}
+use Rattle.carv_scheduler.specs.laws.Formed.{leaves-as}
+use Rattle.carv_scheduler.specs.laws.AreaLaws.{area-formed, area-sound}
+use Rattle.carv_scheduler.specs.laws.Calls.{refused, answered}
+use Rattle.carv_scheduler.specs.laws.Places.{found-here, found-gone, here-has, gone-has}
+use Rattle.carv_scheduler.specs.laws.CallSteps.{here-is, here-not, start-room, started-is}
+use Rattle.carv_scheduler_spec.specs.laws.Questions.{start-missing, start-other, start-done}
 use Rattle.carv_scheduler.specs.Area.{decode}
 use Rattle.carv_scheduler.proofs.calls.start.Statement.{statement}
 use Rattle.carv_scheduler.proofs.calls.start.Tie as tie

@@ -1,7 +1,7 @@
 -- `carv_scheduler::calls::store_and_join` meets its contract. Assumes nothing.
 use borrow.Author.Needs.{needs}
-use Rattle.carv_scheduler.specs.Formed.{leaves-as}
-use Rattle.carv_scheduler.specs.CallSteps.{stored-joined, queue-kept}
+use Rattle.carv_scheduler.specs.laws.Formed.{leaves-as}
+use Rattle.carv_scheduler.specs.laws.CallSteps.{stored-joined, queue-kept}
 use Rattle.carv_scheduler.specs.Area.{decode}
 use Rattle.carv_scheduler.proofs.calls.store_and_join.Statement.{statement}
 use Rattle.carv_scheduler.proofs.calls.store_and_join.Tie as tie

@@ -2,9 +2,9 @@
 use mathlib.Core.Path.{refl, ap}
 use mathlib.Core.Option.{some}
 use Prim.Native.Nat.{ℕ}
-use Rattle.carv_board.specs.Scheduler.{figure}
-use Rattle.carv_scheduler.specs.AreaLaws.{area-formed}
-use Rattle.carv_scheduler.specs.Calls.{read-serves}
+use Rattle.carv_scheduler_spec.specs.Scheduler.{word}
+use Rattle.carv_scheduler.specs.laws.AreaLaws.{area-formed}
+use Rattle.carv_scheduler.specs.laws.Calls.{read-serves}
 use Rattle.carv_scheduler.proofs.calls.switches.Statement.{statement}
 use Rattle.carv_scheduler.proofs.calls.switches.Tie as tie
 
@@ -13,4 +13,4 @@ switches-spec =
     tie.close
     (tie.spec
     (λ c κs. area-formed _ (c .before .pre))  -- switches-requires
-    (λ c. read-serves _ _ (c .before .before .pre) _ refl refl _ refl (ap (λ (n : ℕ). some (figure n)) (c .switches .ensures))))  -- returns
+    (λ c. read-serves _ _ (c .before .before .pre) _ refl refl _ refl (ap (λ (n : ℕ). some (word n)) (c .switches .ensures))))  -- returns

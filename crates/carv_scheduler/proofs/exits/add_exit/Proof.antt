@@ -3,8 +3,8 @@ use borrow.Author.Needs.{needs}
 use native.Mathlib.Omega.{arith}
 use mathlib.Core.Path.{_∙_}
 use Rattle.carv_scheduler.specs.Area.{exits-part}
-use Rattle.carv_scheduler.specs.Formed.{exits-written}
-use Rattle.carv_scheduler.specs.ExitSteps.{length-exits}
+use Rattle.carv_scheduler.specs.laws.Formed.{exits-written}
+use Rattle.carv_scheduler.specs.laws.ExitSteps.{length-exits}
 use Rattle.carv_scheduler.proofs.exits.add_exit.Statement.{statement}
 use Rattle.carv_scheduler.proofs.exits.add_exit.Tie as tie
 

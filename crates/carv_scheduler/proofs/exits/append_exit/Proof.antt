@@ -1,6 +1,6 @@
 -- `carv_scheduler::exits::append_exit` meets its contract. Assumes nothing.
 use borrow.Author.Needs.{needs}
-use Rattle.carv_scheduler.specs.ExitSteps.{exit-appended}
+use Rattle.carv_scheduler.specs.laws.ExitSteps.{exit-appended}
 use Rattle.carv_scheduler.proofs.exits.append_exit.Statement.{statement}
 use Rattle.carv_scheduler.proofs.exits.append_exit.Tie as tie
 

@@ -2,7 +2,7 @@
 use borrow.Author.Needs.{needs}
 use mathlib.Core.Path.{_∙_}
 use Rattle.carv_scheduler.specs.Area.{exits-part}
-use Rattle.carv_scheduler.specs.ExitSteps.{length-exits, exits-room, exit-counted, oldest-dropped}
+use Rattle.carv_scheduler.specs.laws.ExitSteps.{length-exits, exits-room, exit-counted, oldest-dropped}
 use Rattle.carv_scheduler.proofs.exits.drop_oldest.Statement.{statement}
 use Rattle.carv_scheduler.proofs.exits.drop_oldest.Tie as tie
 

@@ -1,7 +1,7 @@
 -- `carv_scheduler::exits::exit_at` meets its contract. Assumes nothing.
 use borrow.Author.Needs.{needs}
 use Rattle.carv_scheduler.specs.Area.{exits-part}
-use Rattle.carv_scheduler.specs.ExitSteps.{exit-room, exit-is}
+use Rattle.carv_scheduler.specs.laws.ExitSteps.{exit-room, exit-is}
 use Rattle.carv_scheduler.proofs.exits.exit_at.Statement.{statement}
 use Rattle.carv_scheduler.proofs.exits.exit_at.Tie as tie
 

@@ -1,7 +1,7 @@
 -- `carv_scheduler::exits::exit_count` meets its contract. Assumes nothing.
 use borrow.Author.Needs.{needs}
 use Rattle.carv_scheduler.specs.Area.{exits-part}
-use Rattle.carv_scheduler.specs.ExitSteps.{exits-count}
+use Rattle.carv_scheduler.specs.laws.ExitSteps.{exits-count}
 use Rattle.carv_scheduler.proofs.exits.exit_count.Statement.{statement}
 use Rattle.carv_scheduler.proofs.exits.exit_count.Tie as tie
 

@@ -44,14 +44,15 @@ use denote.Triple.Spec.{Meets, tripleOf}
 use denote.Triple.Table.{entered}
 use denote.Triple.Walked.{says, Stays, stay-none-slice, stay-none, walkOf, goes-none, goes-none-slice, Walks, ends-at, walked, walk-meets}
 use denote.Exit.{yes}
-use Rattle.carv_board.specs.Scheduler.{exit-in}
-use Rattle.carv_scheduler.specs.Rows.{no-exit}
-use Rattle.carv_scheduler.specs.ExitRun.{cause-of, run-ends, run-here, run-past}
-use Rattle.carv_board.specs.declared.Exit.{Exit}
+use Rattle.carv_scheduler_spec.specs.Scheduler.{exit-in}
+use Rattle.carv_scheduler.specs.laws.Rows.{no-exit}
+use Rattle.carv_scheduler.specs.ExitRun.{cause-of}
+use Rattle.carv_scheduler.specs.laws.ExitSearch.{run-ends, run-here, run-past}
+use Rattle.carv_scheduler_spec.specs.declared.Exit.{Exit}
 use Rattle.carv_scheduler.specs.declared.exits.Cause.{Cause}
 use Rattle.carv_scheduler.specs.declared.exits.Cause.the-variants.{Logged, Nothing}
-use Rattle.carv_board.proofs.Exit as T
-use Rattle.carv_board.proofs.Exit.Laws as T′
+use Rattle.carv_scheduler_spec.proofs.Exit as T
+use Rattle.carv_scheduler_spec.proofs.Exit.Laws as T′
 use Rattle.carv_scheduler.proofs.exits.Cause as N
 use Rattle.carv_scheduler.proofs.exits.Cause.Laws as N′
 use Rattle.carv_scheduler.proofs.exits.exit_in.Key.{name as #this}

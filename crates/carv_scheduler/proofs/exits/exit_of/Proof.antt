@@ -4,10 +4,10 @@ use Prim.Native.Nat.{_-_}
 use native.Mathlib.Omega.{arith}
 use mathlib.Core.Path.{_≡_, refl}
 use lib.ListN.{length, drop}
-use Rattle.carv_board.specs.Scheduler.{exit-in}
+use Rattle.carv_scheduler_spec.specs.Scheduler.{exit-in}
 use Rattle.carv_scheduler.specs.Area.{decode}
-use Rattle.carv_scheduler.specs.AreaLaws.{area-formed}
-use Rattle.carv_scheduler.specs.ExitSteps.{exit-ends, exit-found, exit-on, cause-served, no-cause-served}
+use Rattle.carv_scheduler.specs.laws.AreaLaws.{area-formed}
+use Rattle.carv_scheduler.specs.laws.ExitSteps.{exit-ends, exit-found, exit-on, cause-served, no-cause-served}
 use Rattle.carv_scheduler.proofs.exits.exit_of.Statement.{statement}
 use Rattle.carv_scheduler.proofs.exits.exit_of.Tie as tie
 

@@ -1,6 +1,6 @@
 -- `carv_scheduler::exits::log_exit` meets its contract. Assumes nothing.
 use borrow.Author.Needs.{needs}
-use Rattle.carv_scheduler.specs.ExitSteps.{logged-room, logged-left}
+use Rattle.carv_scheduler.specs.laws.ExitSteps.{logged-room, logged-left}
 use Rattle.carv_scheduler.proofs.exits.log_exit.Statement.{statement}
 use Rattle.carv_scheduler.proofs.exits.log_exit.Tie as tie
 

@@ -1,6 +1,6 @@
 -- `carv_scheduler::exits::make_room` meets its contract. Assumes nothing.
 use borrow.Author.Needs.{needs}
-use Rattle.carv_scheduler.specs.ExitSteps.{full-some, room-made, room-there}
+use Rattle.carv_scheduler.specs.laws.ExitSteps.{full-some, room-made, room-there}
 use Rattle.carv_scheduler.proofs.exits.make_room.Statement.{statement}
 use Rattle.carv_scheduler.proofs.exits.make_room.Tie as tie
 

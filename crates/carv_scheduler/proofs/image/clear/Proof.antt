@@ -6,7 +6,7 @@ use native.Mathlib.Nat.{not-suc-le-zero}
 use mathlib.Core.Path.{_≡_, refl, _∙_}
 use lib.ListN.{length, getD, length-set}
 use borrow.Author.Needs.{needs}
-use Rattle.carv_scheduler.specs.ImageSteps.{clear-on, clear-done}
+use Rattle.carv_scheduler.specs.laws.ImageSteps.{clear-on, clear-done}
 use Rattle.carv_scheduler.proofs.image.clear.Statement.{statement}
 use Rattle.carv_scheduler.proofs.image.clear.Tie as tie
 

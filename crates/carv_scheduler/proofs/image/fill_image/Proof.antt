@@ -2,7 +2,7 @@
 use borrow.Author.Needs.{needs}
 use native.Mathlib.Omega.{arith}
 use lib.ListN.{length-set}
-use Rattle.carv_scheduler.specs.ImageSteps.{image-is}
+use Rattle.carv_scheduler.specs.laws.ImageSteps.{image-is}
 use Rattle.carv_scheduler.proofs.image.fill_image.Statement.{statement}
 use Rattle.carv_scheduler.proofs.image.fill_image.Tie as tie
 

@@ -1,6 +1,6 @@
 -- `carv_scheduler::killing::end_thread` meets its contract. Assumes nothing.
 use borrow.Author.Needs.{needs}
-use Rattle.carv_scheduler.specs.KillSteps.{killed-current, killed-other}
+use Rattle.carv_scheduler.specs.laws.KillSteps.{killed-current, killed-other}
 use Rattle.carv_scheduler.proofs.killing.end_thread.Statement.{statement}
 use Rattle.carv_scheduler.proofs.killing.end_thread.Tie as tie
 

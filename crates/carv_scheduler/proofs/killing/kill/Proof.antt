@@ -1,9 +1,9 @@
 -- `carv_scheduler::killing::kill` meets its contract. Assumes nothing.
 use borrow.Author.Needs.{needs}
 use Rattle.carv_objects.proofs.Rules.{said-not, said-so}
-use Rattle.carv_scheduler.specs.AreaLaws.{area-formed}
-use Rattle.carv_scheduler.specs.Places.{found-here, found-gone, gone-has}
-use Rattle.carv_scheduler.specs.KillSteps.{unlisted-served, idle-served, missing-served, kill-distinct, kill-served}
+use Rattle.carv_scheduler.specs.laws.AreaLaws.{area-formed}
+use Rattle.carv_scheduler.specs.laws.Places.{found-here, found-gone, gone-has}
+use Rattle.carv_scheduler.specs.laws.KillSteps.{unlisted-served, idle-served, missing-served, kill-distinct, kill-served}
 use Rattle.carv_scheduler.specs.Area.{decode}
 use Rattle.carv_scheduler.proofs.killing.kill.Statement.{statement}
 use Rattle.carv_scheduler.proofs.killing.kill.Tie as tie

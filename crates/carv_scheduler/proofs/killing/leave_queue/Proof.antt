@@ -1,6 +1,6 @@
 -- `carv_scheduler::killing::leave_queue` meets its contract. Assumes nothing.
 use borrow.Author.Needs.{needs}
-use Rattle.carv_scheduler.specs.KillSteps.{queue-here, queue-gone, queue-stays, queue-left}
+use Rattle.carv_scheduler.specs.laws.KillSteps.{queue-here, queue-gone, queue-stays, queue-left}
 use Rattle.carv_scheduler.specs.Area.{decode}
 use Rattle.carv_scheduler.proofs.killing.leave_queue.Statement.{statement}
 use Rattle.carv_scheduler.proofs.killing.leave_queue.Tie as tie

@@ -8,7 +8,7 @@ use lib.ListN.{length, getD}
 use borrow.Author.Needs.{needs}
 use Rattle.carv_area.specs.Keys.{find-none, find-at}
 use Rattle.carv_scheduler.specs.Area.{decode}
-use Rattle.carv_scheduler.specs.KillSteps.{none-further}
+use Rattle.carv_scheduler.specs.laws.KillSteps.{none-further}
 use Rattle.carv_scheduler.proofs.killing.queue_find.Statement.{statement}
 use Rattle.carv_scheduler.proofs.killing.queue_find.Tie as tie
 

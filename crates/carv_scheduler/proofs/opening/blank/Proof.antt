@@ -1,7 +1,7 @@
 -- `carv_scheduler::opening::blank` meets its contract. Assumes nothing.
 use borrow.Author.Needs.{needs}
 use mathlib.Core.Path.{_∙_}
-use Rattle.carv_scheduler.specs.Opening.{blank-formed}
+use Rattle.carv_scheduler.specs.laws.Opening.{blank-formed}
 use Rattle.carv_scheduler.proofs.opening.blank.Statement.{statement}
 use Rattle.carv_scheduler.proofs.opening.blank.Tie as tie
 

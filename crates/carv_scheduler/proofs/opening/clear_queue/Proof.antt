@@ -1,7 +1,7 @@
 -- `carv_scheduler::opening::clear_queue` meets its contract. Assumes nothing.
 use borrow.Author.Needs.{needs}
 use native.Mathlib.Omega.{arith}
-use Rattle.carv_scheduler.specs.Opening.{wiped}
+use Rattle.carv_scheduler.specs.laws.Opening.{wiped}
 use Rattle.carv_scheduler.proofs.opening.clear_queue.Statement.{statement}
 use Rattle.carv_scheduler.proofs.opening.clear_queue.Tie as tie
 

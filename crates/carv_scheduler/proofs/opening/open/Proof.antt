@@ -1,7 +1,7 @@
 -- `carv_scheduler::opening::open` meets its contract. Assumes nothing.
 use borrow.Author.Needs.{needs}
-use Rattle.carv_scheduler.specs.Opening.{first-new, idle-new, board-opened, opened-size, opened-share, opened-done}
-use Rattle.carv_scheduler.specs.Formed.{unchanged}
+use Rattle.carv_scheduler.specs.laws.Opening.{first-new, idle-new, board-opened, opened-size, opened-share, opened-done}
+use Rattle.carv_scheduler.specs.laws.Formed.{unchanged}
 use Rattle.carv_scheduler.proofs.opening.open.Statement.{statement}
 use Rattle.carv_scheduler.proofs.opening.open.Tie as tie
 

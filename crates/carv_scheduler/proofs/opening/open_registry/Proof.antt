@@ -1,6 +1,6 @@
 -- `carv_scheduler::opening::open_registry` meets its contract. Assumes nothing.
 use borrow.Author.Needs.{needs}
-use Rattle.carv_scheduler.specs.Opening.{registry-opened}
+use Rattle.carv_scheduler.specs.laws.Opening.{registry-opened}
 use Rattle.carv_scheduler.proofs.opening.open_registry.Statement.{statement}
 use Rattle.carv_scheduler.proofs.opening.open_registry.Tie as tie
 

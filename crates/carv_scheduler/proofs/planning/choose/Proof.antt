@@ -1,6 +1,6 @@
 -- `carv_scheduler::planning::choose` meets its contract. Assumes nothing.
 use borrow.Author.Needs.{needs}
-use Rattle.carv_scheduler.specs.Planning.{chooses-within, chooses-at, chooses-idle}
+use Rattle.carv_scheduler.specs.laws.Planning.{chooses-within, chooses-at, chooses-idle}
 use Rattle.carv_scheduler.proofs.planning.choose.Statement.{statement}
 use Rattle.carv_scheduler.proofs.planning.choose.Tie as tie
 

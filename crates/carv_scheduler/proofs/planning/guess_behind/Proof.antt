@@ -1,6 +1,6 @@
 -- `carv_scheduler::planning::guess_behind` meets its contract. Assumes nothing.
 use borrow.Author.Needs.{needs}
-use Rattle.carv_scheduler.specs.Planning.{guess-on, guess-over, guess-none}
+use Rattle.carv_scheduler.specs.laws.Planning.{guess-on, guess-over, guess-none}
 use Rattle.carv_scheduler.proofs.planning.guess_behind.Statement.{statement}
 use Rattle.carv_scheduler.proofs.planning.guess_behind.Tie as tie
 

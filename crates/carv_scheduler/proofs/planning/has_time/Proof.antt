@@ -1,8 +1,8 @@
 -- `carv_scheduler::planning::has_time` meets its contract. Assumes nothing.
 use borrow.Author.Needs.{needs}
 use lib.ListN.{getD}
-use Rattle.carv_scheduler.specs.Rows.{no-row}
-use Rattle.carv_scheduler.specs.Planning.{tests-free, tests-budget}
+use Rattle.carv_scheduler.specs.laws.Rows.{no-row}
+use Rattle.carv_scheduler.specs.laws.Planning.{tests-free, tests-budget}
 use Rattle.carv_scheduler.specs.Area.{decode}
 use Rattle.carv_scheduler.proofs.planning.has_time.Statement.{statement}
 use Rattle.carv_scheduler.proofs.planning.has_time.Tie as tie

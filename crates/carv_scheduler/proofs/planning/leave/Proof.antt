@@ -1,7 +1,7 @@
 -- `carv_scheduler::planning::leave` meets its contract. Assumes nothing.
 use borrow.Author.Needs.{needs}
-use Rattle.carv_scheduler.specs.Places.{found-here, found-gone}
-use Rattle.carv_scheduler.specs.PlanSteps.{leaves-not, leaves-at, leaves-gone}
+use Rattle.carv_scheduler.specs.laws.Places.{found-here, found-gone}
+use Rattle.carv_scheduler.specs.laws.PlanSteps.{leaves-not, leaves-at, leaves-gone}
 use Rattle.carv_scheduler.specs.Area.{decode}
 use Rattle.carv_scheduler.proofs.planning.leave.Statement.{statement}
 use Rattle.carv_scheduler.proofs.planning.leave.Tie as tie

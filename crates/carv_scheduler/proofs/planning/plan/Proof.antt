@@ -1,8 +1,8 @@
 -- `carv_scheduler::planning::plan` meets its contract. Assumes nothing.
 use borrow.Author.Needs.{needs}
 use mathlib.Core.Path.{refl}
-use Rattle.carv_scheduler.specs.AreaLaws.{area-formed}
-use Rattle.carv_scheduler.specs.PlanSteps.{plan-refused, planned-formed, planned-current, planned-dead, planned-here, planned}
+use Rattle.carv_scheduler.specs.laws.AreaLaws.{area-formed}
+use Rattle.carv_scheduler.specs.laws.PlanSteps.{plan-refused, planned-formed, planned-current, planned-dead, planned-here, planned}
 use Rattle.carv_scheduler.proofs.planning.plan.Statement.{statement}
 use Rattle.carv_scheduler.proofs.planning.plan.Tie as tie
 

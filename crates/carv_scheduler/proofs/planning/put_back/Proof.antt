@@ -1,9 +1,9 @@
 -- `carv_scheduler::planning::put_back` meets its contract. Assumes nothing.
 use borrow.Author.Needs.{needs}
 use native.Mathlib.Omega.{arith}
-use Rattle.carv_scheduler.specs.AreaLaws.{area-formed}
-use Rattle.carv_scheduler.specs.Places.{found-here, found-gone}
-use Rattle.carv_scheduler.specs.PlanSteps.{backs-gone, backs-not, backs-idle, backs-room, backs-goes}
+use Rattle.carv_scheduler.specs.laws.AreaLaws.{area-formed}
+use Rattle.carv_scheduler.specs.laws.Places.{found-here, found-gone}
+use Rattle.carv_scheduler.specs.laws.PlanSteps.{backs-gone, backs-not, backs-idle, backs-room, backs-goes}
 use Rattle.carv_scheduler.specs.Area.{decode}
 use Rattle.carv_scheduler.proofs.planning.put_back.Statement.{statement}
 use Rattle.carv_scheduler.proofs.planning.put_back.Tie as tie

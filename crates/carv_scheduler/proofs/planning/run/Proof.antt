@@ -1,7 +1,7 @@
 -- `carv_scheduler::planning::run` meets its contract. Assumes nothing.
 use borrow.Author.Needs.{needs}
-use Rattle.carv_scheduler.specs.Places.{found-here, found-gone}
-use Rattle.carv_scheduler.specs.PlanSteps.{runs-at, runs-gone}
+use Rattle.carv_scheduler.specs.laws.Places.{found-here, found-gone}
+use Rattle.carv_scheduler.specs.laws.PlanSteps.{runs-at, runs-gone}
 use Rattle.carv_scheduler.specs.Area.{decode}
 use Rattle.carv_scheduler.proofs.planning.run.Statement.{statement}
 use Rattle.carv_scheduler.proofs.planning.run.Tie as tie

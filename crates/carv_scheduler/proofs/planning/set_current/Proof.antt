@@ -1,6 +1,6 @@
 -- `carv_scheduler::planning::set_current` meets its contract. Assumes nothing.
 use borrow.Author.Needs.{needs}
-use Rattle.carv_scheduler.specs.PlanSteps.{counted}
+use Rattle.carv_scheduler.specs.laws.PlanSteps.{counted}
 use Rattle.carv_scheduler.proofs.planning.set_current.Statement.{statement}
 use Rattle.carv_scheduler.proofs.planning.set_current.Tie as tie
 

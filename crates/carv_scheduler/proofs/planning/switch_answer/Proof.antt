@@ -1,8 +1,8 @@
 -- `carv_scheduler::planning::switch_answer` meets its contract. Assumes nothing.
 use borrow.Author.Needs.{needs}
 use native.Mathlib.Omega.{arith}
-use Rattle.carv_scheduler.specs.Places.{found-here, found-gone}
-use Rattle.carv_scheduler.specs.PlanSteps.{says-same, says-gone, says-kernel, says-root}
+use Rattle.carv_scheduler.specs.laws.Places.{found-here, found-gone}
+use Rattle.carv_scheduler.specs.laws.PlanSteps.{says-same, says-gone, says-kernel, says-root}
 use Rattle.carv_scheduler.specs.Area.{decode}
 use Rattle.carv_scheduler.proofs.planning.switch_answer.Statement.{statement}
 use Rattle.carv_scheduler.proofs.planning.switch_answer.Tie as tie

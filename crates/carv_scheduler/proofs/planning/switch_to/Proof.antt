@@ -1,6 +1,6 @@
 -- `carv_scheduler::planning::switch_to` meets its contract. Assumes nothing.
 use borrow.Author.Needs.{needs}
-use Rattle.carv_scheduler.specs.PlanSteps.{switches-not, switches-so}
+use Rattle.carv_scheduler.specs.laws.PlanSteps.{switches-not, switches-so}
 use Rattle.carv_scheduler.proofs.planning.switch_to.Statement.{statement}
 use Rattle.carv_scheduler.proofs.planning.switch_to.Tie as tie
 

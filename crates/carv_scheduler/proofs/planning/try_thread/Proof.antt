@@ -1,7 +1,7 @@
 -- `carv_scheduler::planning::try_thread` meets its contract. Assumes nothing.
 use borrow.Author.Needs.{needs}
-use Rattle.carv_scheduler.specs.Places.{found-here, found-gone}
-use Rattle.carv_scheduler.specs.Planning.{tries-gone, tries-so, tries-not}
+use Rattle.carv_scheduler.specs.laws.Places.{found-here, found-gone}
+use Rattle.carv_scheduler.specs.laws.Planning.{tries-gone, tries-so, tries-not}
 use Rattle.carv_scheduler.specs.Area.{decode}
 use Rattle.carv_scheduler.proofs.planning.try_thread.Statement.{statement}
 use Rattle.carv_scheduler.proofs.planning.try_thread.Tie as tie

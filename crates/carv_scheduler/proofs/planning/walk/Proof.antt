@@ -2,7 +2,7 @@
 -- The measure is the number of places left. Assumes nothing.
 use Prim.Native.Nat.{_-_}
 use borrow.Author.Needs.{needs}
-use Rattle.carv_scheduler.specs.Planning.{Turn, turn-starts, turn-within, turn-found, turn-on, turn-ends}
+use Rattle.carv_scheduler.specs.laws.Planning.{Turn, turn-starts, turn-within, turn-found, turn-on, turn-ends}
 use Rattle.carv_scheduler.proofs.planning.walk.Statement.{statement}
 use Rattle.carv_scheduler.proofs.planning.walk.Tie as tie
 

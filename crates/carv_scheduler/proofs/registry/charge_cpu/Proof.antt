@@ -1,7 +1,7 @@
 -- `carv_scheduler::registry::charge_cpu` meets its contract. Assumes nothing.
 use borrow.Author.Needs.{needs}
-use Rattle.carv_scheduler.specs.OnRegistry.{part-fits, part-sound, part-served}
-use Rattle.carv_registry.specs.Registry.{charge-cpu}
+use Rattle.carv_scheduler.specs.laws.OnRegistry.{part-fits, part-sound, part-served}
+use Rattle.carv_objects_spec.specs.Registry.{charge-cpu}
 use Rattle.carv_scheduler.proofs.registry.charge_cpu.Statement.{statement}
 use Rattle.carv_scheduler.proofs.registry.charge_cpu.Tie as tie
 

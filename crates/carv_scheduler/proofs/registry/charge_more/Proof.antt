@@ -1,7 +1,7 @@
 -- `carv_scheduler::registry::charge_more` meets its contract. Assumes nothing.
 use borrow.Author.Needs.{needs}
-use Rattle.carv_scheduler.specs.OnRegistry.{part-fits, part-sound, part-served}
-use Rattle.carv_registry.specs.Registry.{charge-more}
+use Rattle.carv_scheduler.specs.laws.OnRegistry.{part-fits, part-sound, part-served}
+use Rattle.carv_objects_spec.specs.Registry.{charge-more}
 use Rattle.carv_scheduler.proofs.registry.charge_more.Statement.{statement}
 use Rattle.carv_scheduler.proofs.registry.charge_more.Tie as tie
 

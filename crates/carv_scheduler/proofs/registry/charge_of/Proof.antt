@@ -1,7 +1,7 @@
 -- `carv_scheduler::registry::charge_of` meets its contract. Assumes nothing.
 use borrow.Author.Needs.{needs}
-use Rattle.carv_scheduler.specs.OnRegistry.{part-fits, part-sound, part-read}
-use Rattle.carv_registry.specs.Registry.{charge-of}
+use Rattle.carv_scheduler.specs.laws.OnRegistry.{part-fits, part-sound, part-read}
+use Rattle.carv_objects_spec.specs.Registry.{charge-of}
 use Rattle.carv_scheduler.proofs.registry.charge_of.Statement.{statement}
 use Rattle.carv_scheduler.proofs.registry.charge_of.Tie as tie
 

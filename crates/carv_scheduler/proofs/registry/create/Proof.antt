@@ -1,7 +1,7 @@
 -- `carv_scheduler::registry::create` meets its contract. Assumes nothing.
 use borrow.Author.Needs.{needs}
-use Rattle.carv_scheduler.specs.OnRegistry.{part-fits, part-sound, part-served}
-use Rattle.carv_registry.specs.Registry.{create}
+use Rattle.carv_scheduler.specs.laws.OnRegistry.{part-fits, part-sound, part-served}
+use Rattle.carv_objects_spec.specs.Registry.{create}
 use Rattle.carv_scheduler.proofs.registry.create.Statement.{statement}
 use Rattle.carv_scheduler.proofs.registry.create.Tie as tie
 

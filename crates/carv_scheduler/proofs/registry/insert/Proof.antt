@@ -1,7 +1,7 @@
 -- `carv_scheduler::registry::insert` meets its contract. Assumes nothing.
 use borrow.Author.Needs.{needs}
-use Rattle.carv_scheduler.specs.OnRegistry.{part-fits, part-sound, part-served}
-use Rattle.carv_registry.specs.Registry.{insert}
+use Rattle.carv_scheduler.specs.laws.OnRegistry.{part-fits, part-sound, part-served}
+use Rattle.carv_objects_spec.specs.Registry.{insert}
 use Rattle.carv_scheduler.proofs.registry.insert.Statement.{statement}
 use Rattle.carv_scheduler.proofs.registry.insert.Tie as tie
 

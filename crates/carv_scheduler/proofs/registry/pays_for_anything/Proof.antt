@@ -1,7 +1,7 @@
 -- `carv_scheduler::registry::pays_for_anything` meets its contract. Assumes nothing.
 use borrow.Author.Needs.{needs}
-use Rattle.carv_scheduler.specs.OnRegistry.{part-fits, part-sound, part-read}
-use Rattle.carv_registry.specs.Registry.{pays-for-anything}
+use Rattle.carv_scheduler.specs.laws.OnRegistry.{part-fits, part-sound, part-read}
+use Rattle.carv_objects_spec.specs.Registry.{pays-for-anything}
 use Rattle.carv_scheduler.proofs.registry.pays_for_anything.Statement.{statement}
 use Rattle.carv_scheduler.proofs.registry.pays_for_anything.Tie as tie
 

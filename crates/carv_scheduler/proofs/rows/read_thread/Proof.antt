@@ -12,10 +12,10 @@ read-thread-spec =
     (λ c κs. search needs)  -- get-requires
     (λ c. search needs)  -- add-read-wait
     (λ c κs. search needs)  -- read-wait-requires
-    (λ c. search needs)  -- add-read-payer
-    (λ c κs. search needs)  -- read-payer-requires
-    (λ c. search needs)  -- add-read-space
-    (λ c κs. search needs)  -- read-space-requires
+    (λ c. search needs)  -- add-read-budget-id
+    (λ c κs. search needs)  -- read-budget-id-requires
+    (λ c. search needs)  -- add-read-spaces
+    (λ c κs. search needs)  -- read-spaces-requires
     (λ c. search needs)  -- add-read-context
     (λ c κs. search needs)  -- read-context-requires
     (λ c. search needs)  -- add-read-results

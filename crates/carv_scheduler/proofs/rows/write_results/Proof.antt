@@ -1,7 +1,7 @@
 -- `carv_scheduler::rows::write_results` meets its contract. Assumes nothing.
 use borrow.Author.Needs.{needs}
 use native.Mathlib.Numerals.{towards-numerals}
-use Rattle.carv_scheduler.specs.Rows.{set-results}
+use Rattle.carv_scheduler.specs.laws.Rows.{set-results}
 use Rattle.carv_scheduler.proofs.rows.write_results.Statement.{statement}
 use Rattle.carv_scheduler.proofs.rows.write_results.Tie as tie
 

@@ -1,6 +1,6 @@
 -- `carv_scheduler::rows::write_start` meets its contract. Assumes nothing.
 use borrow.Author.Needs.{needs}
-use Rattle.carv_scheduler.specs.Rows.{start-set}
+use Rattle.carv_scheduler.specs.laws.Rows.{start-set}
 use Rattle.carv_scheduler.proofs.rows.write_start.Statement.{statement}
 use Rattle.carv_scheduler.proofs.rows.write_start.Tie as tie
 

@@ -1,6 +1,6 @@
 -- `carv_scheduler::rows::write_thread` meets its contract. Assumes nothing.
 use borrow.Author.Needs.{needs}
-use Rattle.carv_scheduler.specs.Rows.{thread-set}
+use Rattle.carv_scheduler.specs.laws.Rows.{thread-set}
 use Rattle.carv_scheduler.proofs.rows.write_thread.Statement.{statement}
 use Rattle.carv_scheduler.proofs.rows.write_thread.Tie as tie
 
@@ -9,8 +9,8 @@ write-thread-spec =
     tie.close
     (tie.spec
     (λ c κs. search needs)  -- write-start-requires
-    (λ c κs. search needs)  -- write-place-requires
+    (λ c κs. search needs)  -- write-spaces-requires
     (λ c κs. search needs)  -- write-context-requires
     (λ c κs. search needs)  -- write-end-requires
     (λ c. search needs)  -- same-length
-    (λ c. thread-set _ _ _ _ _ _ _ _ (c .before .before .before .before .before .before .before .before .before .before .before .before .before .before .write-start .ensures) (c .before .before .before .before .before .before .before .before .before .before .write-place .ensures) (c .before .before .before .before .before .before .write-context .ensures) (c .before .before .write-end .ensures)))  -- returns
+    (λ c. thread-set _ _ _ _ _ _ _ _ (c .before .before .before .before .before .before .before .before .before .before .before .before .before .before .write-start .ensures) (c .before .before .before .before .before .before .before .before .before .before .write-spaces .ensures) (c .before .before .before .before .before .before .write-context .ensures) (c .before .before .write-end .ensures)))  -- returns

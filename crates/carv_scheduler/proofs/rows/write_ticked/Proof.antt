@@ -1,6 +1,6 @@
 -- `carv_scheduler::rows::write_ticked` meets its contract. Assumes nothing.
 use borrow.Author.Needs.{needs}
-use Rattle.carv_scheduler.specs.Rows.{set-ticks}
+use Rattle.carv_scheduler.specs.laws.Rows.{set-ticks}
 use Rattle.carv_scheduler.proofs.rows.write_ticked.Statement.{statement}
 use Rattle.carv_scheduler.proofs.rows.write_ticked.Tie as tie
 

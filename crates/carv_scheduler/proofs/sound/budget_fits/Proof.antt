@@ -2,7 +2,7 @@
 use borrow.Author.Needs.{needs}
 use mathlib.Core.Path.{sym, _∙_}
 use borrow.Author.Tests.{not-true, not-false}
-use Rattle.carv_scheduler.specs.SoundThread.{budget-paid, budget-some, budget-none}
+use Rattle.carv_scheduler.specs.laws.SoundThread.{budget-paid, budget-some, budget-none}
 use Rattle.carv_scheduler.proofs.sound.budget_fits.Statement.{statement}
 use Rattle.carv_scheduler.proofs.sound.budget_fits.Tie as tie
 

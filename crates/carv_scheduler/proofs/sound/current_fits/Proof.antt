@@ -2,8 +2,8 @@
 use borrow.Author.Needs.{needs}
 use native.Mathlib.Omega.{arith}
 use Rattle.carv_area.specs.Words.{words}
-use Rattle.carv_scheduler.specs.SoundRows.{stands, missing}
-use Rattle.carv_scheduler.specs.SoundStates.{no-current, current-tells}
+use Rattle.carv_scheduler.specs.laws.SoundRows.{stands, missing}
+use Rattle.carv_scheduler.specs.laws.SoundStates.{no-current, current-tells}
 use Rattle.carv_scheduler.proofs.sound.current_fits.Statement.{statement}
 use Rattle.carv_scheduler.proofs.sound.current_fits.Tie as tie
 

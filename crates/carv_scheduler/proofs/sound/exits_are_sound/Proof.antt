@@ -7,10 +7,10 @@ use mathlib.Core.Bool.{true≢false, false≢true}
 use borrow.Author.Tests.{not-true, not-false}
 use Rattle.carv_area.specs.Words.{words}
 use Rattle.carv_objects.proofs.Rules.{said-not, said-so}
-use Rattle.carv_board.specs.Scheduler.{cause-listed}
-use Rattle.carv_scheduler.specs.SoundWalk.{Listed}
-use Rattle.carv_scheduler.specs.SoundRows.{one-more}
-use Rattle.carv_scheduler.specs.SoundLog.{exit-listed, exits-sound}
+use Rattle.carv_scheduler_spec.specs.Scheduler.{cause-listed}
+use Rattle.carv_scheduler.specs.laws.SoundWalk.{Listed}
+use Rattle.carv_scheduler.specs.laws.SoundRows.{one-more}
+use Rattle.carv_scheduler.specs.laws.SoundLog.{exit-listed, exits-sound}
 use Rattle.carv_scheduler.proofs.sound.exits_are_sound.Statement.{statement}
 use Rattle.carv_scheduler.proofs.sound.exits_are_sound.Tie as tie
 

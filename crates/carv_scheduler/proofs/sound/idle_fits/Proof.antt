@@ -3,8 +3,8 @@ use borrow.Author.Needs.{needs}
 use native.Mathlib.Omega.{arith}
 use mathlib.Core.Bool.{true≢false, false≢true}
 use Rattle.carv_area.specs.Words.{words}
-use Rattle.carv_scheduler.specs.SoundRows.{stands, missing}
-use Rattle.carv_scheduler.specs.SoundStates.{no-idle, idle-runs, idle-else, idle-waits}
+use Rattle.carv_scheduler.specs.laws.SoundRows.{stands, missing}
+use Rattle.carv_scheduler.specs.laws.SoundStates.{no-idle, idle-runs, idle-else, idle-waits}
 use Rattle.carv_scheduler.proofs.sound.idle_fits.Statement.{statement}
 use Rattle.carv_scheduler.proofs.sound.idle_fits.Tie as tie
 

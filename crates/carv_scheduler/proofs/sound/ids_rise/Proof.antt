@@ -7,8 +7,8 @@ use mathlib.Core.Bool.{true≢false, false≢true}
 use lib.ListN.{length, length-set}
 use Rattle.carv_area.specs.Words.{words}
 use Rattle.carv_area.specs.WordLaws.{word-below}
-use Rattle.carv_scheduler.specs.SoundWalk.{Order}
-use Rattle.carv_scheduler.specs.SoundRows.{order-none, order-first, order-more, order-off, order-all}
+use Rattle.carv_scheduler.specs.laws.SoundWalk.{Order}
+use Rattle.carv_scheduler.specs.laws.SoundRows.{order-none, order-first, order-more, order-off, order-all}
 use Rattle.carv_scheduler.proofs.sound.ids_rise.Statement.{statement}
 use Rattle.carv_scheduler.proofs.sound.ids_rise.Tie as tie
 

@@ -4,7 +4,7 @@ use native.Mathlib.Omega.{arith}
 use mathlib.Core.Path.{sym, _∙_}
 use borrow.Author.Tests.{not-true, not-false}
 use Rattle.carv_scheduler.specs.Area.{registry-part}
-use Rattle.carv_scheduler.specs.SoundBridge.{asked-size, asked-registry, asked}
+use Rattle.carv_scheduler.specs.laws.SoundBridge.{asked-size, asked-registry, asked}
 use Rattle.carv_scheduler.proofs.sound.is_sound.Statement.{statement}
 use Rattle.carv_scheduler.proofs.sound.is_sound.Tie as tie
 

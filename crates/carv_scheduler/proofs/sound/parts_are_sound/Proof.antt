@@ -4,8 +4,8 @@ use mathlib.Core.Bool.{false≢true}
 use native.Mathlib.Omega.{arith}
 use borrow.Author.Tests.{not-true, not-false}
 use Rattle.carv_scheduler.specs.Area.{head, threads-part, queue-part, exits-part}
-use Rattle.carv_scheduler.specs.AreaSteps.{length-head, length-threads, length-queue}
-use Rattle.carv_scheduler.specs.SoundBridge.{parts-no, parts-tell}
+use Rattle.carv_scheduler.specs.laws.AreaSteps.{length-head, length-threads, length-queue}
+use Rattle.carv_scheduler.specs.laws.SoundBridge.{parts-no, parts-tell}
 use Rattle.carv_scheduler.proofs.sound.parts_are_sound.Statement.{statement}
 use Rattle.carv_scheduler.proofs.sound.parts_are_sound.Tie as tie
 

@@ -7,7 +7,7 @@ use mathlib.Core.Bool.{true≢false, false≢true}
 use lib.ListN.{getD}
 use borrow.Author.Tests.{not-true, not-false}
 use Rattle.carv_area.specs.Words.{words}
-use Rattle.carv_scheduler.specs.SoundWalk.{Walk}
+use Rattle.carv_scheduler.specs.laws.SoundWalk.{Walk}
 use Rattle.carv_scheduler.proofs.sound.queue_fits.Statement.{statement}
 use Rattle.carv_scheduler.proofs.sound.queue_fits.Tie as tie
 

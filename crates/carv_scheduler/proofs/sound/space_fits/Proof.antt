@@ -1,5 +1,5 @@
 -- `carv_scheduler::sound::space_fits` meets its contract. Assumes nothing.
-use Rattle.carv_scheduler.specs.SoundThread.{space-some, space-first, space-second, space-third}
+use Rattle.carv_scheduler.specs.laws.SoundThread.{space-some, space-first, space-second, space-third}
 use Rattle.carv_scheduler.proofs.sound.space_fits.Statement.{statement}
 use Rattle.carv_scheduler.proofs.sound.space_fits.Tie as tie
 

@@ -1,5 +1,5 @@
 -- `carv_scheduler::sound::state_fits` meets its contract. Assumes nothing.
-use Rattle.carv_scheduler.specs.SoundThread.{state-low, state-high, state-dead, state-ready, state-running, state-idle, state-other}
+use Rattle.carv_scheduler.specs.laws.SoundThread.{state-low, state-high, state-dead, state-ready, state-running, state-idle, state-other}
 use Rattle.carv_scheduler.proofs.sound.state_fits.Statement.{statement}
 use Rattle.carv_scheduler.proofs.sound.state_fits.Tie as tie
 

@@ -5,7 +5,7 @@ use mathlib.Core.Path.{sym, _∙_}
 use mathlib.Core.Bool.{false≢true}
 use borrow.Author.Tests.{not-true, not-false}
 use Rattle.carv_area.specs.Words.{words}
-use Rattle.carv_scheduler.specs.SoundRows.{behind-queue}
+use Rattle.carv_scheduler.specs.laws.SoundRows.{behind-queue}
 use Rattle.carv_scheduler.proofs.sound.tables_are_sound.Statement.{statement}
 use Rattle.carv_scheduler.proofs.sound.tables_are_sound.Tie as tie
 

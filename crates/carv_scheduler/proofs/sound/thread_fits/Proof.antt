@@ -3,7 +3,7 @@ use borrow.Author.Needs.{needs}
 use borrow.Author.Tests.{not-true, not-false}
 use mathlib.Core.Bool.{false≢true}
 use Rattle.carv_area.specs.Words.{words}
-use Rattle.carv_scheduler.specs.SoundThread.{no-state, no-wait, no-budget, space-tells}
+use Rattle.carv_scheduler.specs.laws.SoundThread.{no-state, no-wait, no-budget, space-tells}
 use Rattle.carv_scheduler.proofs.sound.thread_fits.Statement.{statement}
 use Rattle.carv_scheduler.proofs.sound.thread_fits.Tie as tie
 

@@ -4,8 +4,8 @@ use native.Mathlib.Omega.{arith}
 use mathlib.Core.Bool.{false≢true}
 use borrow.Author.Tests.{not-true, not-false}
 use Rattle.carv_area.specs.Words.{words}
-use Rattle.carv_scheduler.specs.SoundRows.{ordered-keyed}
-use Rattle.carv_scheduler.specs.SoundQueue.{walk-none, walk-sound, fit-out, fit-in}
+use Rattle.carv_scheduler.specs.laws.SoundRows.{ordered-keyed}
+use Rattle.carv_scheduler.specs.laws.SoundQueue.{walk-none, walk-sound, fit-out, fit-in}
 use Rattle.carv_scheduler.proofs.sound.threads_are_sound.Statement.{statement}
 use Rattle.carv_scheduler.proofs.sound.threads_are_sound.Tie as tie
 

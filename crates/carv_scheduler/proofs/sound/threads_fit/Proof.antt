@@ -7,8 +7,8 @@ use lib.Dec.{eqb}
 use lib.ListN.{getD}
 use borrow.Author.Tests.{not-true, not-false}
 use Rattle.carv_area.specs.Words.{words}
-use Rattle.carv_scheduler.specs.SoundWalk.{Fits, Fit}
-use Rattle.carv_scheduler.specs.SoundRows.{one-more}
+use Rattle.carv_scheduler.specs.laws.SoundWalk.{Fits, Fit}
+use Rattle.carv_scheduler.specs.laws.SoundRows.{one-more}
 use Rattle.carv_scheduler.proofs.sound.threads_fit.Statement.{statement}
 use Rattle.carv_scheduler.proofs.sound.threads_fit.Tie as tie
 

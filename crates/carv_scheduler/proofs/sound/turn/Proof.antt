@@ -3,8 +3,8 @@ use borrow.Author.Needs.{needs}
 use native.Mathlib.Omega.{arith}
 use mathlib.Core.Bool.{true≢false, false≢true}
 use Rattle.carv_area.specs.Words.{words}
-use Rattle.carv_scheduler.specs.SoundRows.{stands, missing, keys-rise}
-use Rattle.carv_scheduler.specs.SoundQueue.{off-idle, off-missing, off-state, off-marked, walk-on}
+use Rattle.carv_scheduler.specs.laws.SoundRows.{stands, missing, keys-rise}
+use Rattle.carv_scheduler.specs.laws.SoundQueue.{off-idle, off-missing, off-state, off-marked, walk-on}
 use Rattle.carv_scheduler.proofs.sound.turn.Statement.{statement}
 use Rattle.carv_scheduler.proofs.sound.turn.Tie as tie
 

@@ -1,6 +1,6 @@
 -- `carv_scheduler::sound::wait_fits` meets its contract. Assumes nothing.
 use borrow.Author.Needs.{needs}
-use Rattle.carv_scheduler.specs.SoundThread.{wait-blocked, wait-kind, wait-number}
+use Rattle.carv_scheduler.specs.laws.SoundThread.{wait-blocked, wait-kind, wait-number}
 use Rattle.carv_scheduler.proofs.sound.wait_fits.Statement.{statement}
 use Rattle.carv_scheduler.proofs.sound.wait_fits.Tie as tie
 

@@ -1,9 +1,9 @@
 -- `carv_scheduler::ticking::account` meets its contract. Assumes nothing.
 use borrow.Author.Needs.{needs}
 use native.Mathlib.Omega.{arith}
-use Rattle.carv_scheduler.specs.AreaLaws.{area-formed}
-use Rattle.carv_scheduler.specs.Places.{found-here, found-gone}
-use Rattle.carv_scheduler.specs.Ticking.{account-gone, account-free, account-paid}
+use Rattle.carv_scheduler.specs.laws.AreaLaws.{area-formed}
+use Rattle.carv_scheduler.specs.laws.Places.{found-here, found-gone}
+use Rattle.carv_scheduler.specs.laws.Ticking.{account-gone, account-free, account-paid}
 use Rattle.carv_scheduler.specs.Area.{decode}
 use Rattle.carv_scheduler.proofs.ticking.account.Statement.{statement}
 use Rattle.carv_scheduler.proofs.ticking.account.Tie as tie

@@ -2,8 +2,8 @@
 use borrow.Author.Needs.{needs}
 use mathlib.Core.Path.{_∙_}
 use Rattle.carv_scheduler.specs.Area.{registry-part}
-use Rattle.carv_scheduler.specs.Formed.{registry-written}
-use Rattle.carv_scheduler.specs.AreaSteps.{length-registry}
+use Rattle.carv_scheduler.specs.laws.Formed.{registry-written}
+use Rattle.carv_scheduler.specs.laws.AreaSteps.{length-registry}
 use Rattle.carv_scheduler.proofs.ticking.charge.Statement.{statement}
 use Rattle.carv_scheduler.proofs.ticking.charge.Tie as tie
 

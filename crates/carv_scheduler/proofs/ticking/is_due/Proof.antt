@@ -2,8 +2,8 @@
 use borrow.Author.Needs.{needs}
 use native.Mathlib.Omega.{arith}
 use lib.ListN.{getD}
-use Rattle.carv_scheduler.specs.Rows.{no-row}
-use Rattle.carv_scheduler.specs.Waking.{not-blocked, not-asleep, not-yet, due-now}
+use Rattle.carv_scheduler.specs.laws.Rows.{no-row}
+use Rattle.carv_scheduler.specs.laws.Waking.{not-blocked, not-asleep, not-yet, due-now}
 use Rattle.carv_scheduler.specs.Area.{decode}
 use Rattle.carv_scheduler.proofs.ticking.is_due.Statement.{statement}
 use Rattle.carv_scheduler.proofs.ticking.is_due.Tie as tie

@@ -1,9 +1,9 @@
 -- `carv_scheduler::ticking::tick` meets its contract. Assumes nothing.
 use borrow.Author.Needs.{needs}
 use native.Mathlib.Omega.{arith}
-use Rattle.carv_board.specs.Scheduler.{tick}
-use Rattle.carv_scheduler.specs.Calls.{refused}
-use Rattle.carv_scheduler.specs.Ticking.{tick-late, ticks}
+use Rattle.carv_scheduler_spec.specs.Scheduler.{tick}
+use Rattle.carv_scheduler.specs.laws.Calls.{refused}
+use Rattle.carv_scheduler.specs.laws.Ticking.{tick-late, ticks}
 use Rattle.carv_scheduler.specs.Area.{decode}
 use Rattle.carv_scheduler.proofs.ticking.tick.Statement.{statement}
 use Rattle.carv_scheduler.proofs.ticking.tick.Tie as tie

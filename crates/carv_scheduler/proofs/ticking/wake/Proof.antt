@@ -1,9 +1,9 @@
 -- `carv_scheduler::ticking::wake` meets its contract. Assumes nothing.
 use borrow.Author.Needs.{needs}
 use native.Mathlib.Omega.{arith}
-use Rattle.carv_scheduler.specs.AreaLaws.{area-formed}
-use Rattle.carv_scheduler.specs.Places.{found-here, found-gone}
-use Rattle.carv_scheduler.specs.Waking.{here-blocked, wake-gone, wake-other, wake-serves}
+use Rattle.carv_scheduler.specs.laws.AreaLaws.{area-formed}
+use Rattle.carv_scheduler.specs.laws.Places.{found-here, found-gone}
+use Rattle.carv_scheduler.specs.laws.Waking.{here-blocked, wake-gone, wake-other, wake-serves}
 use Rattle.carv_scheduler.specs.Area.{decode}
 use Rattle.carv_scheduler.proofs.ticking.wake.Statement.{statement}
 use Rattle.carv_scheduler.proofs.ticking.wake.Tie as tie

@@ -2,8 +2,8 @@
 use borrow.Author.Needs.{needs}
 use mathlib.Core.Path.{sym, _∙_}
 use borrow.Author.Tests.{not-true, not-false}
-use Rattle.carv_scheduler.specs.AreaLaws.{area-formed}
-use Rattle.carv_scheduler.specs.Waking.{not-due, due-here, due-wakes}
+use Rattle.carv_scheduler.specs.laws.AreaLaws.{area-formed}
+use Rattle.carv_scheduler.specs.laws.Waking.{not-due, due-here, due-wakes}
 use Rattle.carv_scheduler.proofs.ticking.wake_at.Statement.{statement}
 use Rattle.carv_scheduler.proofs.ticking.wake_at.Tie as tie
 

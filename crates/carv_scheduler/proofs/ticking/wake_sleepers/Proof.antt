@@ -3,8 +3,8 @@
 use Prim.Native.Nat.{_-_}
 use mathlib.Core.Path.{sym, _∙_}
 use borrow.Author.Needs.{needs}
-use Rattle.carv_scheduler.specs.AreaLaws.{area-formed}
-use Rattle.carv_scheduler.specs.Waking.{Waking, waking-starts, waking-place, waking-on, waking-ends}
+use Rattle.carv_scheduler.specs.laws.AreaLaws.{area-formed}
+use Rattle.carv_scheduler.specs.laws.Waking.{Waking, waking-starts, waking-place, waking-on, waking-ends}
 use Rattle.carv_scheduler.proofs.ticking.wake_sleepers.Statement.{statement}
 use Rattle.carv_scheduler.proofs.ticking.wake_sleepers.Tie as tie
 

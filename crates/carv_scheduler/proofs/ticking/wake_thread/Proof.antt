@@ -1,7 +1,7 @@
 -- `carv_scheduler::ticking::wake_thread` meets its contract. Assumes nothing.
 use borrow.Author.Needs.{needs}
-use Rattle.carv_scheduler.specs.AreaLaws.{area-formed}
-use Rattle.carv_scheduler.specs.Waking.{wake-room, wakes}
+use Rattle.carv_scheduler.specs.laws.AreaLaws.{area-formed}
+use Rattle.carv_scheduler.specs.laws.Waking.{wake-room, wakes}
 use Rattle.carv_scheduler.proofs.ticking.wake_thread.Statement.{statement}
 use Rattle.carv_scheduler.proofs.ticking.wake_thread.Tie as tie
 

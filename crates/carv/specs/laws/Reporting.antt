@@ -1,0 +1,44 @@
+-- From an entry point of the board to its C function. Assumes nothing.
+use mathlib.Core.Path.{_≡_, refl}
+use mathlib.Core.List.{List}
+use Prim.Native.Nat.{ℕ}
+use lib.ListN.{length}
+use borrow.Author.Tests.{eqb-true, eqb-false}
+use Rattle.carv_objects.specs.declared.Answer as registry
+use Rattle.carv_objects.specs.Answer as registry-answer
+use Rattle.carv_scheduler_spec.specs.Scheduler.{Board, BoardReply}
+use Rattle.carv_scheduler.specs.declared.Answer.{Answer}
+use Rattle.carv_scheduler.specs.Answer.{number}
+use Rattle.carv_scheduler.specs.Creating.{Created}
+use Rattle.carv.specs.C.{registry-reported, reported, Returns, CreatesInC}
+
+-- `report`, where the answer x is y
+pub reported-as : (x y : Answer) → x ≡ y → (r : ℕ) (out out′ : List ℕ) → r ≡ number y → out′ ≡ reported y out → (r ≡ number x) × (out′ ≡ reported x out)
+reported-as x y e r out out′ p q = rw e (p, q)
+
+pub registry-reported-as : (x y : registry.Answer) → x ≡ y → (r : ℕ) (out out′ : List ℕ) → r ≡ registry-answer.number y → out′ ≡ registry-reported y out
+    → (r ≡ registry-answer.number x) × (out′ ≡ registry-reported x out)
+registry-reported-as x y e r out out′ p q = rw e (p, q)
+
+module _ (says : Answer → List ℕ → Type 0) (a out : List ℕ) where
+  -- the answer words are not 20
+  pub returned-one : (length out ≡ 20 → ⊥) → Returns says a out 1 a out
+  returned-one n = record { size = λ q. (refl, refl, refl); reports = λ q. absurd (n (eqb-true (length out) 20 q)) }
+
+  -- the answer x is reported
+  pub returned : length out ≡ 20 → (x : Answer) (a′ : List ℕ) → says x a′ → (r : ℕ) (out′ : List ℕ) → (r ≡ number x) × (out′ ≡ reported x out) → Returns says a out r a′ out′
+  returned e x a′ h r out′ p = record {
+    size = λ q. absurd (eqb-false (length out) 20 q e);
+    reports = λ q. record { answer = x; said = h; number = p .0; values = p .1 };
+  }
+
+-- the same of a call that is lent a register image
+module _ (call : Board → BoardReply) (a m out : List ℕ) where
+  pub c-created-size : (length out ≡ 20 → ⊥) → CreatesInC call a m out 1 a m out
+  c-created-size n = record { size = λ q. (refl, refl, refl, refl); reports = λ q. absurd (n (eqb-true (length out) 20 q)) }
+
+  pub c-created : length out ≡ 20 → (x : Answer) (a′ m′ : List ℕ) → Created call a m x a′ m′ → (r : ℕ) (out′ : List ℕ) → (r ≡ number x) × (out′ ≡ reported x out) → CreatesInC call a m out r a′ m′ out′
+  c-created e x a′ m′ h r out′ p = record {
+    size = λ q. absurd (eqb-false (length out) 20 q e);
+    reports = λ q. record { answer = x; said = h; number = p .0; values = p .1 };
+  }

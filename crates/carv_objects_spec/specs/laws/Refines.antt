@@ -1,0 +1,359 @@
+-- The calls of document 01 answer and leave what the Rust's methods do, on every sound registry, wherever the answer is no refusal that the port adds.
+-- Assumes nothing.
+use mathlib.Core.Path.{_≡_, refl, sym, ap, _∙_}
+use mathlib.Core.Bool.{Bool, true, false, cond, not, _||_}
+use mathlib.Core.Option.{Option, none, some}
+use mathlib.Core.List.{List, [], _∷_, _++_}
+use Prim.Native.Nat.{ℕ, suc, _+_, _-_, _≤_, _<_}
+use native.Mathlib.Omega.{arith}
+use native.Mathlib.Numerals.{add-one}
+use native.Mathlib.Nat.{add-sub-cancel, sub-zero}
+use lib.Dec.{eqb, leb}
+use borrow.Author.Tests.{eqb-true, eqb-false, eq-eqb, ne-eqb, leb-true, leb-false, le-leb, lt-ltb, le-ltb}
+use Rattle.carv_area.specs.Table.{Row, at, alter, erase, put, total, Rising, test, at-alter, at-below, at-erase-other, rising-le, rising-alter, total-at}
+use Rattle.carv_budget.specs.declared.Account.{Account}
+use Rattle.carv_budget.specs.Account as account
+use Rattle.carv_budget.specs.Rust as budget
+use Rattle.carv_budget.specs.laws.Refines.{refill-renews, charge-memory-by, release-memory-by, charge-cpu-by, carve-out-by, release-child-by, renew-charged}
+use Rattle.carv_objects_spec.specs.declared.Entry.{Entry}
+use Rattle.carv_objects_spec.specs.Reply.{refuse, accept, Value, id, pays, of-account, charge}
+use Rattle.carv_objects_spec.specs.Registry as r01
+use Rattle.carv_objects_spec.specs.Registry.{Registry, RegistryReply, or-missing, entry, is-budget, account-of, payer-of, on-account, on-charge, object, drop, add, plain, carved, bytes-of, listed, needs-backing, has-place, has-next}
+use Rattle.carv_objects_spec.specs.Rust as rust
+use Rattle.carv_objects_spec.specs.Replies.{reply-of, an-id, nothing, a-renewal, cpu-reply-of, reading-of}
+use Rattle.carv_objects_spec.specs.Refused.{added, added-to-uncharge}
+use Rattle.carv_objects_spec.specs.Rust.{Call}
+use Rattle.carv_objects_spec.specs.Sound.{charge-by}
+use Rattle.carv_objects_spec.specs.laws.SoundFacts.{Sound}
+
+-- Tables.
+
+module _ {A : Type 0} where
+  -- what stands under i decides what an alteration does
+  pub alter-known : (m : List (Row A)) (i : ℕ) (f g : A → A) (a : A) → at m i ≡ some a → f a ≡ g a → alter i f m ≡ alter i g m
+  alter-known [] i f g a h q = refl
+  alter-known (r ∷ m) i f g a h q = test (eqb (r .id) i)
+      (λ e. let h′ : some (r .it) ≡ some a = rw e at h in let x : r .it ≡ a = cc in rw (e, x, q))
+      (λ e. rw e (ap (_∷_ r) (alter-known m i f g a (rw e at h) q)))
+
+  pub alter-alter : (m : List (Row A)) (i : ℕ) (f g : A → A) → alter i g (alter i f m) ≡ alter i (λ a. g (f a)) m
+  alter-alter [] i f g = refl
+  alter-alter (r ∷ m) i f g = test (eqb (r .id) i)
+      (λ e. rw (e, eq-eqb i i refl))
+      (λ e. rw (e, e) (ap (_∷_ r) (alter-alter m i f g)))
+
+  pub alter-id : (m : List (Row A)) (i : ℕ) → alter i (λ a. a) m ≡ m
+  alter-id [] i = refl
+  alter-id (r ∷ m) i = test (eqb (r .id) i)
+      (λ e. rw (e, ← eqb-true (r .id) i e))
+      (λ e. rw e (ap (_∷_ r) (alter-id m i)))
+
+  -- alterations that commute under one id commute
+  pub alter-swap : (m : List (Row A)) (i j : ℕ) (f g : A → A) → ((a : A) → f (g a) ≡ g (f a)) → alter i f (alter j g m) ≡ alter j g (alter i f m)
+  alter-swap [] i j f g h = refl
+  alter-swap (r ∷ m) i j f g h = test (eqb (r .id) i)
+      (λ e. let q = eqb-true (r .id) i e in test (eqb (r .id) j)
+      (λ d. let w = eqb-true (r .id) j d in rw (e, d, ← q, ← w, eq-eqb (r .id) (r .id) refl) (rw h))
+      (λ d. rw (e, d, e, rw q at d)))
+      (λ e. test (eqb (r .id) j)
+      (λ d. let w = eqb-true (r .id) j d in rw (e, d, rw w at e))
+      (λ d. rw (e, d, e) (ap (_∷_ r) (alter-swap m i j f g h))))
+
+  -- a row after the last, one before the first, and one back in its place
+  put-last : (m : List (Row A)) (l n i : ℕ) (a : A) → Rising l n m → n ≤ i → put i a m ≡ m ++ (record { id = i; it = a } ∷ [])
+  put-last [] l n i a u h = refl
+  put-last (r ∷ m) l n i a u h =
+      let k = rising-le m (suc (r .id)) n (u .1) in
+      rw (ne-eqb (r .id) i (λ q. omega arith), le-ltb i (r .id) (omega arith)) (ap (_∷_ r) (put-last m (suc (r .id)) n i a (u .1) h))
+
+  pub put-first : (m : List (Row A)) (l n i : ℕ) (a : A) → Rising l n m → i < l → put i a m ≡ record { id = i; it = a } ∷ m
+  put-first [] l n i a u h = refl
+  put-first (r ∷ m) l n i a u h = let k = u .0 in rw (ne-eqb (r .id) i (λ q. omega arith), lt-ltb i (r .id) (omega arith))
+
+  pub put-erase : (m : List (Row A)) (l n i : ℕ) (a : A) → Rising l n m → at m i ≡ some a → put i a (erase i m) ≡ m
+  put-erase [] l n i a u h = cc
+  put-erase (r ∷ m) l n i a u h = test (eqb (r .id) i)
+      (λ e. let q = eqb-true (r .id) i e in let h′ : some (r .it) ≡ some a = rw e at h in let x : r .it ≡ a = cc in
+      rw (e, put-first m (suc (r .id)) n i a (u .1) (omega arith), ← q, ← x))
+      (λ e. rw (e, e, le-ltb i (r .id) (after (rw e at h))) (ap (_∷_ r) (put-erase m (suc (r .id)) n i a (u .1) (rw e at h))))
+    where
+      after : at m i ≡ some a → r .id ≤ i
+      after g = test (leb (r .id) i) (λ p. leb-true (r .id) i p)
+          (λ p. let k = leb-false (r .id) i p in let z = at-below m (suc (r .id)) n i (u .1) (omega arith) in
+          let b : _≡_ {A = ℕ} 0 1 = cc in absurd (omega arith))
+
+-- Budgets. `write` is what the Rust leaves behind `budget_mut`.
+
+abbrev write : ℕ → Account → Registry → Registry
+write = rust.write-budget
+
+-- a budget is there
+there : (o : Option Entry) → eqb (or-missing o .kind) 6 ≡ true → o ≡ some (or-missing o)
+there none p = cc
+there (some e) p = refl
+
+budget-of-is : (o : Option Entry) → rust.budget-of o ≡ cond (eqb (or-missing o .kind) 6) (some (or-missing o .account)) none
+budget-of-is none = refl
+budget-of-is (some e) = refl
+
+budget-mut-is : (p : ℕ) (r : Registry) → rust.budget-mut p r ≡ cond (is-budget r p) (some (account-of r p)) none
+budget-mut-is p r = budget-of-is (at (r .rows) p)
+
+abbrev with-rows : Registry → List (Row Entry) → Registry
+with-rows r m = record { next = r .next; rows = m }
+
+write-write : (p : ℕ) (x y : Account) (r : Registry) → write p y (write p x r) ≡ write p y r
+write-write p x y r = ap (with-rows r) (alter-alter (r .rows) p (on-account (λ _. x)) (on-account (λ _. y)))
+
+module _ (p : ℕ) (r : Registry) (live : is-budget r p ≡ true) where
+  -- a step of the account is what is written
+  step-is : (f : Account → Account) → r01.budget p f r ≡ write p (f (account-of r p)) r
+  step-is f = ap (with-rows r) (alter-known (r .rows) p (on-account f) (on-account (λ _. f (account-of r p))) (entry r p) (there (at (r .rows) p) live) refl)
+
+  write-same : write p (account-of r p) r ≡ r
+  write-same = ap (with-rows r) (alter-known (r .rows) p (on-account (λ _. account-of r p)) (λ e. e) (entry r p) (there (at (r .rows) p) live) refl ∙ alter-id (r .rows) p)
+
+  budget-written : (x : Account) → rust.budget-mut p (write p x r) ≡ some x
+  budget-written x = rw (at-alter (r .rows) p (on-account (λ _. x)) (entry r p) (there (at (r .rows) p) live), live)
+
+  credit-written : (x : Account) (n : ℕ) → rust.credit p n (write p x r) ≡ write p (budget.release-memory x n .self) r
+  unfolding rust.credit
+  credit-written x n = rw (budget-written x) (write-write p x _ r)
+
+released : (x : Account) (n : ℕ) → n ≤ x .«memory_used» → budget.release-memory x n .self ≡ account.credit x n
+released x n h = rw (release-memory-by x n, le-leb n (x .«memory_used») h)
+
+credit-charged : (p n : ℕ) (r : Registry) (a : Account) → is-budget r p ≡ true → rust.credit p n (write p (account.charge a n) r) ≡ write p a r
+credit-charged p n r a l = rw (credit-written p r l (account.charge a n) n, released (account.charge a n) n (omega arith), add-sub-cancel)
+
+-- `charge(..)?` and what follows, the payer charged: question 12 where the payer is there, questions 7 and 12 else
+module _ {A : Type 0} (value : A → Option Value) (invalid p n : ℕ) (r : Registry) (k : Unit {0} → Registry → Call A) (x : RegistryReply) where
+  abbrev Rest : Type 0
+  Rest = leb n (account.free (account-of r p)) ≡ true → x ≡ reply-of value invalid (k tt (write p (account.charge (account-of r p) n) r))
+
+  paid : is-budget r p ≡ true → Rest → cond (leb n (account.free (account-of r p))) x (refuse 12 r) ≡ reply-of value invalid (rust.try (rust.charge p n r) k)
+  unfolding rust.charge
+  paid l h = rw (budget-mut-is p r, l, charge-memory-by) (test (leb n (account.free (account-of r p))) (λ f. rw f (h f)) (λ f. rw (f, write-same p r l)))
+
+  charged : (is-budget r p ≡ true → Rest)
+      → cond (is-budget r p) (cond (leb n (account.free (account-of r p))) x (refuse 12 r)) (refuse 7 r) ≡ reply-of value invalid (rust.try (rust.charge p n r) k)
+  unfolding rust.charge
+  charged h = test (is-budget r p) (λ l. rw l (paid l (h l))) (λ l. rw (budget-mut-is p r, l))
+
+-- The theorems, each with what it rests on. A call that asks no added question has no premise on its number, and one that needs no soundness none on the registry.
+
+-- if x is no added refusal, then it is y
+abbrev Agrees : (x y : RegistryReply) → Type 0
+Agrees x y = added (x .number) ≡ false → x ≡ y
+
+-- an added question is passed
+skip : (number : ℕ) (b : Bool) {k y : RegistryReply} (r : Registry) → added number ≡ true → (b ≡ true → Agrees k y) → Agrees (cond b k (refuse number r)) y
+skip n true r a h p = h refl p
+skip n false r a h p = cc
+
+-- the next id's entry stands last
+stored : (e : Entry) (s : Registry) → Rising 1 (s .next) (s .rows) → accept (an-id (s .next)) (add e s) ≡ reply-of an-id 13 (rust.store e s)
+stored e s u = rw (put-last (s .rows) 1 (s .next) (s .next) e u (omega arith), add-one)
+
+-- a step of the payer's account, and an entry more
+inserted : (e : Entry) (p : ℕ) (f : Account → Account) (r : Registry) → Rising 1 (r .next) (r .rows) → is-budget r p ≡ true
+    → accept (an-id (r .next)) (add e (r01.budget p f r)) ≡ reply-of an-id 13 (rust.store e (write p (f (account-of r p)) r))
+inserted e p f r u l =
+    ap (λ (s : Registry). accept {S = Registry} (an-id (s .next)) (add e s)) (step-is p r l f) ∙ stored e (write p (f (account-of r p)) r) (rising-alter (r .rows) 1 (r .next) p _ u)
+
+pub insert-rust : (kind payer bytes : ℕ) (r : Registry) → Sound r → added (r01.insert kind payer bytes r .number) ≡ false
+    → r01.insert kind payer bytes r ≡ reply-of an-id 13 (rust.insert payer kind bytes r)
+insert-rust kind payer bytes r s =
+    skip 4 (listed kind) r refl λ _. skip 4 (not (eqb kind 6)) r refl λ _. skip 6 (has-place r) r refl λ _. skip 6 (has-next r) r refl λ _ _.
+    charged an-id 13 payer bytes r _ _ λ l _. inserted (plain kind payer bytes) payer (λ a. account.charge a bytes) r (s .rising) l
+
+-- what `create` answers by what it could build; x where it could
+abbrev of-build : Registry → RegistryReply → rust.Built → RegistryReply
+of-build r x rust.built = x
+of-build r x rust.no-backing = refuse 14 r
+of-build r x rust.no-method = refuse 13 r
+
+build-by : (b m4 m5 m7 backing : Bool) (r : Registry) (x : RegistryReply)
+    → cond (b || m4 || m5 || m7) (cond (not b || backing) x (refuse 14 r)) (refuse 13 r)
+    ≡ of-build r x (cond b (cond backing rust.built rust.no-backing) (cond (m4 || m5 || m7) rust.built rust.no-method))
+build-by true c d e true r x = refl
+build-by true c d e false r x = refl
+build-by false true d e k r x = refl
+build-by false false true e k r x = refl
+build-by false false false true k r x = refl
+build-by false false false false k r x = refl
+
+-- `object_bytes` is 01's table
+object-bytes-is : (kind : ℕ) → rust.object-bytes kind ≡ bytes-of kind
+object-bytes-is kind = by (eqb kind 1) (eqb kind 2) (eqb kind 3) (eqb kind 4) (eqb kind 6)
+  where
+    by : (a b c d e : Bool) → _≡_ {A = ℕ} (cond a 33_792 (cond b 16_384 (cond c 4_096 (cond d 128 (cond e 128 64))))) (cond a 33_792 (cond b 16_384 (cond c 4_096 (cond (d || e) 128 64))))
+    by a b c true e = refl
+    by a b c false e = refl
+
+-- x is what `insert` answers, once the charge is credited, to a payer that has room
+module _ (kind payer : ℕ) (r charged : Registry) (x : RegistryReply) (f : leb (bytes-of kind) (account.free (account-of r payer)) ≡ true)
+    (back : rust.credit payer (bytes-of kind) charged ≡ r)
+    (h : cond (leb (bytes-of kind) (account.free (account-of r payer))) x (refuse 12 r) ≡ reply-of an-id 13 (rust.insert payer kind (bytes-of kind) r)) where
+  created : (b : rust.Built) → of-build r x b ≡ reply-of an-id 13 (rust.create-built b kind payer charged)
+  created rust.built = rw (object-bytes-is kind, back) (rw f at h)
+  created rust.no-backing = rw (object-bytes-is kind, back)
+  created rust.no-method = rw (object-bytes-is kind, back)
+
+pub create-rust : (kind payer : ℕ) (backing : Bool) (r : Registry) → Sound r → added (r01.create kind payer backing r .number) ≡ false
+    → r01.create kind payer backing r ≡ reply-of an-id 13 (rust.create kind payer backing r)
+create-rust kind payer backing r s = rw (object-bytes-is kind)
+    (skip 4 (listed kind) r refl λ _. skip 6 (has-place r) r refl λ _. skip 6 (has-next r) r refl λ _ _.
+    charged an-id 13 payer (bytes-of kind) r _ _ λ l f. build-by (needs-backing kind) (eqb kind 4) (eqb kind 5) (eqb kind 7) backing r _
+    ∙ created kind payer r _ _ f (credit-charged payer (bytes-of kind) r (account-of r payer) l ∙ write-same payer r l)
+    (paid an-id 13 payer (bytes-of kind) r _ _ l λ _. inserted (plain kind payer (bytes-of kind)) payer (λ a. account.charge a (bytes-of kind)) r (s .rising) l)
+    (rust.build kind backing))
+
+-- a renewal leaves free memory as it is
+free-renewed : (a : Account) (n t : ℕ) → account.free (account.charge (account.renew a t) n) ≡ account.free (account.charge a n)
+unfolding account.renew
+free-renewed a n t = refl
+
+pub create-budget-rust : (parent cpu memory time : ℕ) (r : Registry) → Sound r → added (r01.create-budget parent cpu memory time r .number) ≡ false
+    → r01.create-budget parent cpu memory time r ≡ reply-of an-id 13 (rust.create-budget parent cpu memory time r)
+create-budget-rust parent cpu memory time r s =
+    skip 6 (has-place r) r refl λ _. skip 6 (has-next r) r refl λ _ _.
+    charged an-id 13 parent 128 r _ _ λ l _.
+    let a : Account = account-of r parent in
+    rw (budget-written parent r l (account.charge a 128), carve-out-by (account.charge a 128) cpu memory time, renew-charged a 128 time, free-renewed a 128 time)
+    (test (leb cpu (account.renew a time .«cpu_left»))
+    (λ c. rw c (test (leb memory (account.free (account.charge a 128)))
+    (λ m. rw (m, alter-alter) (inserted (carved parent cpu memory (account.renew a time)) parent (λ a. account.reserve (account.charge (account.renew a time) 128) cpu memory) r (s .rising) l))
+    (λ m. rw (m, alter-alter, credit-charged parent 128 r (account.renew a time) l, step-is parent r l (λ a. account.renew a time)))))
+    (λ c. rw (c, alter-alter, credit-charged parent 128 r (account.renew a time) l, step-is parent r l (λ a. account.renew a time))))
+
+-- what stands under an id
+look : {C : Type 0} (o : Option Entry) → (o ≡ none → C) → (o ≡ some (or-missing o) → C) → C
+look none f g = f refl
+look (some e) f g = g refl
+
+-- of an entry of a sound registry: its payer is a budget, whose account covers its charge
+module _ (r : Registry) (s : Sound r) (i : ℕ) (q : at (r .rows) i ≡ some (entry r i)) where
+  payer-there : is-budget r (payer-of r i) ≡ true
+  payer-there = eq-eqb (entry r (payer-of r i) .kind) 6 (s .each i (entry r i) q .paid)
+
+  covered : entry r i .charge ≤ account-of r (payer-of r i) .«memory_used»
+  covered =
+      let p : ℕ = payer-of r i in
+      let t : charge-by p i (entry r i) ≤ total (charge-by p) (r .rows) = total-at (charge-by p) (r .rows) i (entry r i) q in
+      let t′ : entry r i .charge ≤ total (charge-by p) (r .rows) = rw (eq-eqb p p refl) at t in
+      omega (arith, s .each p (entry r p) (there (at (r .rows) p) payer-there) .used)
+
+pub charge-more-rust : (i bytes : ℕ) (r : Registry) → Sound r → r01.charge-more i bytes r ≡ reply-of nothing 13 (rust.charge-more i bytes r)
+charge-more-rust i bytes r s = look (at (r .rows) i) (λ q. rw q) λ q.
+    let l = payer-there r s i q in
+    rw q (paid nothing 13 (payer-of r i) bytes r _ _ l λ _.
+    ap (λ (t : Registry). accept {A = Value} none (object i (λ c. c + bytes) t)) (step-is (payer-of r i) r l (λ a. account.charge a bytes)))
+
+-- an entry's charge is seen in no account
+charge-aside : (m : List (Row Entry)) (i p : ℕ) (f : ℕ → ℕ) → rust.budget-of (at (alter i (on-charge f) m) p) ≡ rust.budget-of (at m p)
+charge-aside [] i p f = refl
+charge-aside (r ∷ m) i p f = test (eqb (r .id) i)
+    (λ e. rw (e, ← eqb-true (r .id) i e) (test (eqb (r .id) p) (λ d. rw d) (λ d. rw d)))
+    (λ e. rw e (test (eqb (r .id) p) (λ d. rw d) (λ d. rw d (charge-aside m i p f))))
+
+-- the Rust lowers the entry and credits the payer, 01 the other way round
+credit-aside : (p n i : ℕ) (f : ℕ → ℕ) (r : Registry) → is-budget r p ≡ true → n ≤ account-of r p .«memory_used»
+    → object i f (r01.budget p (λ a. account.credit a n) r) ≡ rust.credit p n (object i f r)
+unfolding rust.credit
+credit-aside p n i f r l h =
+    rw (charge-aside (r .rows) i p f, budget-mut-is p r, l, released (account-of r p) n h, alter-swap (r .rows) p i (on-account (λ _. account.credit (account-of r p) n)) (on-charge f) (λ _. refl))
+    (ap (object i f) (step-is p r l (λ a. account.credit a n)))
+
+pub uncharge-rust : (i bytes : ℕ) (r : Registry) → Sound r → added-to-uncharge (r01.uncharge i bytes r .number) ≡ false
+    → r01.uncharge i bytes r ≡ accept none (rust.uncharge i bytes r)
+uncharge-rust i bytes r s = look (at (r .rows) i) (λ q. rw q (λ p. cc)) λ q.
+    rw q (test (leb bytes (entry r i .charge))
+    (λ h. rw h λ _. ap (λ (t : Registry). accept {A = Value} none t)
+    (credit-aside (payer-of r i) bytes i (λ c. c - bytes) r (payer-there r s i q) (omega (arith, covered r s i q, leb-true bytes (entry r i .charge) h))))
+    (λ h. rw h (λ p. cc)))
+
+-- a return of nothing
+pub return-blank : (a : Account) → account.return a account.blank ≡ a
+return-blank a = rw (sub-zero (a .«cpu_reserved»), sub-zero (a .«memory_reserved»))
+
+-- an entry taken out, not the root's: its payer stays, so that its charge is credited there
+module _ (r : Registry) (s : Sound r) (i : ℕ) (q : at (r .rows) i ≡ some (entry r i)) (d : eqb i 1 ≡ false) where
+  abbrev payer : ℕ
+  payer = payer-of r i
+
+  abbrev left : Registry
+  left = drop i r
+
+  stays : at (erase i (r .rows)) (payer-of r i) ≡ at (r .rows) (payer-of r i)
+  stays = let h = s .each i (entry r i) q .lower (eqb-false i 1 d) in at-erase-other (r .rows) i (payer-of r i) (λ w. omega arith)
+
+  still-budget : is-budget left payer ≡ true
+  still-budget = ap (λ (o : Option Entry). eqb (or-missing o .kind) 6) stays ∙ payer-there r s i q
+
+  same-account : account-of left payer ≡ account-of r payer
+  same-account = ap (λ (o : Option Entry). or-missing o .account) stays
+
+  kept : write payer (account-of r payer) left ≡ left
+  kept = rw (← same-account) (write-same payer left still-budget)
+
+  -- `InvalidMethod` leaves the registry as it was
+  put-back : r ≡ rust.insert-entry i (entry r i) (write payer (account-of r payer) left)
+  put-back = sym (ap (rust.insert-entry i (entry r i)) kept ∙ ap (with-rows r) (put-erase (r .rows) 1 (r .next) i (entry r i) (s .rising) q))
+
+  credited : (child : Account)
+      → r01.budget payer (λ a. account.credit (account.return a child) (entry r i .charge)) left
+      ≡ rust.credit payer (entry r i .charge) (write payer (account.return (account-of r payer) child) left)
+  credited child =
+      rw (
+        step-is payer left still-budget (λ a. account.credit (account.return a child) (entry r i .charge)),
+        same-account,
+        credit-written payer left still-budget,
+        released (account.return (account-of r payer) child) (entry r i .charge) (covered r s i q),
+      )
+
+  returned : cond (account.returnable (account-of r payer) (account-of r i))
+      (accept none (r01.budget payer (λ a. account.credit (account.return a (account-of r i)) (entry r i .charge)) left)) (refuse 15 r)
+      ≡ reply-of nothing 15 (rust.remove-budget (rust.budget-mut payer left) i (entry r i) left)
+  returned =
+      rw (budget-mut-is payer left, still-budget, same-account, release-child-by (account-of r payer) (account-of r i))
+      (test (account.returnable (account-of r payer) (account-of r i))
+      (λ t. rw t (ap (λ (x : Registry). accept {A = Value} none x) (credited (account-of r i))))
+      (λ t. rw t (ap (refuse {A = Value} 15) put-back)))
+
+  plain-credited : is-budget r i ≡ false
+      → r01.budget payer (λ a. account.credit (account.return a (account-of r i)) (entry r i .charge)) left ≡ rust.credit payer (entry r i .charge) left
+  plain-credited b = rw (s .each i (entry r i) q .plain b) (credited account.blank ∙ rw (return-blank (account-of r payer), kept))
+
+pub remove-rust : (i : ℕ) (r : Registry) → Sound r → r01.remove i r ≡ reply-of nothing 15 (rust.remove i r)
+remove-rust i r s = look (at (r .rows) i)
+    (λ q. let root : or-missing (at (r .rows) 1) .kind ≡ 6 = s .root in
+    let d : eqb i 1 ≡ false = ne-eqb i 1 (λ w. let z : _≡_ {A = ℕ} 0 6 = cc in omega arith) in rw (q, d))
+    λ q. rw q (test (eqb i 1) (λ d. rw d) (λ d. rw d
+    (test (is-budget r i)
+    (λ b. rw b (test (r01.pays-for r i) (λ w. rw w) (λ w. rw w (returned r s i q d))))
+    (λ b. rw b (ap (λ (x : Registry). accept {A = Value} none x) (plain-credited r s i q d b))))))
+
+pub refill-rust : (i time : ℕ) (r : Registry) → r01.refill i time r ≡ reply-of a-renewal 13 (rust.refill i time r)
+refill-rust i time r = test (is-budget r i)
+    (λ l. rw (budget-mut-is i r, l, refill-renews, step-is i r l (λ a. account.renew a time)))
+    (λ l. rw (budget-mut-is i r, l))
+
+pub charge-cpu-rust : (i ns time : ℕ) (r : Registry) → r01.charge-cpu i ns time r ≡ cpu-reply-of (rust.charge-cpu i ns time r)
+charge-cpu-rust i ns time r = test (is-budget r i)
+    (λ l. rw (budget-mut-is i r, l, charge-cpu-by) (test (leb ns (account.renew (account-of r i) time .«cpu_left»))
+    (λ c. rw (c, step-is i r l (λ a. account.spend (account.renew a time) ns)))
+    (λ c. rw (c, step-is i r l (λ a. account.renew a time)))))
+    (λ l. rw (budget-mut-is i r, l))
+
+pub pays-for-anything-rust : (i : ℕ) (r : Registry) → r01.pays-for-anything i r ≡ accept (some (pays (rust.pays-for-anything i r))) r
+pays-for-anything-rust i r = refl
+
+pub read-account-rust : (i : ℕ) (r : Registry) → r01.read-account i r ≡ reading-of of-account (rust.budget-mut i r) r
+read-account-rust i r = rw (budget-mut-is i r) (test (is-budget r i) (λ l. rw l) (λ l. rw l))
+
+pub charge-of-rust : (i : ℕ) (r : Registry) → r01.charge-of i r ≡ reading-of (λ c. charge (c .0) (c .1)) (rust.charge-of i r) r
+charge-of-rust i r = look (at (r .rows) i) (λ q. rw q) (λ q. rw q)
+
+pub opening-rust : (cpu memory : ℕ) → cpu ≤ account.period → r01.opening cpu memory ≡ rust.new cpu memory
+opening-rust cpu memory h = rw (le-ltb account.period cpu h)

@@ -1,0 +1,32 @@
+-- What serves the proofs: definitions that inner contracts cite, and laws. Nothing here need be believed: what is said with it is used up in the proofs of the entry
+-- points. AreaExact has a theorem for readers: there is one way to write a board.
+pub mod Rows
+pub mod Formed
+pub mod AreaSteps
+pub mod Room
+pub mod AreaLaws
+pub mod AreaExact
+pub mod Calls
+pub mod RowWords
+pub mod Places
+pub mod CallSteps
+pub mod OnRegistry
+pub mod Entry
+pub mod Opening
+pub mod Waking
+pub mod Ticking
+pub mod Walk
+pub mod Planning
+pub mod PlanSteps
+pub mod ExitSteps
+pub mod KillSteps
+pub mod ImageSteps
+pub mod SoundWalk
+pub mod SoundThread
+pub mod SoundRows
+pub mod SoundStates
+pub mod SoundQueue
+pub mod SoundLog
+pub mod SoundBridge
+pub mod Creation
+pub mod ExitSearch
