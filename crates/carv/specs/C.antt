@@ -1,6 +1,6 @@
 -- What a C function tells: the number of the answer is returned, and its values stand in the first of the 20 answer words. Assumes nothing.
 use mathlib.Core.Path.{_≡_}
-use mathlib.Core.Bool.{true, false}
+use mathlib.Core.Bool.{Bool, true, false, cond, _&&_}
 use mathlib.Core.List.{List, [], _∷_}
 use Prim.Native.Nat.{ℕ}
 use lib.Dec.{eqb}
@@ -14,7 +14,7 @@ use Rattle.carv_scheduler.specs.declared.Answer.{Answer}
 use Rattle.carv_scheduler.specs.declared.Answer.the-variants.{Done, Registry, NoSwitch, Switch, SwitchToKernel, Ended, EndedNothing, Blocked, NotBlocked, Record, Word, Cause, NoCause, Refused}
 use Rattle.carv_scheduler.specs.Answer.{number}
 use Rattle.carv_scheduler_spec.specs.Scheduler.{Board, BoardReply}
-use Rattle.carv_scheduler_spec.specs.Book.{Call}
+use Rattle.carv_scheduler_spec.specs.Book.{Call, on-objects, create-user-thread, start, block-current, wake, is-blocked-on, kill, tick, plan, read-thread, read-current, read-switches, exit-of}
 use Rattle.carv_scheduler_spec.specs.Runs.{run}
 use Rattle.carv_scheduler.specs.Area.{Answered, Opened}
 use Rattle.carv_scheduler.specs.Creating.{Created}
@@ -93,3 +93,40 @@ pub record CreatesInC (call : Board → BoardReply) (a m out : List ℕ) (r : �
 
 abbrev pub ExportedWithImage : Call → (a m out : List ℕ) (r : ℕ) (a′ m′ out′ : List ℕ) → Type 0
 ExportedWithImage c = CreatesInC (run c)
+
+-- The exported functions of the calls.
+
+-- only `carv_create_user_thread` is lent a register image
+abbrev pub has-image : Call → Bool
+has-image (on-objects c) = false
+has-image (create-user-thread i budget stack) = true
+has-image (start i space cspace root context) = false
+has-image (block-current kind number) = false
+has-image (wake i r) = false
+has-image (is-blocked-on i kind number) = false
+has-image (kill i cause) = false
+has-image (tick n) = false
+has-image (plan n) = false
+has-image (read-thread i) = false
+has-image read-current = false
+has-image read-switches = false
+has-image (exit-of i) = false
+
+-- One call of a list: the answer words and the image that it was lent and as it left them, the number that it returned, the area that it left.
+pub record Made : Type 0 where
+  pub call : Call
+  pub words : List ℕ
+  pub image : List ℕ
+  pub returned : ℕ
+  pub left : List ℕ
+  pub words′ : List ℕ
+  pub image′ : List ℕ
+
+-- what the C function of the call ensures, on the area a: the `ensures` of src/lib.rt name these two
+pub data Ensures (a : List ℕ) (e : Made) : Type 0 where
+  with-image : has-image (e .call) ≡ true → ExportedWithImage (e .call) a (e .image) (e .words) (e .returned) (e .left) (e .image′) (e .words′) → Ensures a e
+  plain : has-image (e .call) ≡ false → Exported (e .call) a (e .words) (e .returned) (e .left) (e .words′) → e .image′ ≡ e .image → Ensures a e
+
+-- are the answer words 20, and is the image, where there is one, of 512 bytes?
+abbrev pub lent : Made → Bool
+lent e = eqb (length (e .words)) 20 && cond (has-image (e .call)) (eqb (length (e .image)) 512) true

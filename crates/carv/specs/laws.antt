@@ -1,3 +1,5 @@
--- What is proved: Demands, the three demands; Reporting, from an entry point to its C function.
+-- What is proved: Demand1, Demand2, Demand3, the demands of specs/Demands.antt; Reporting, from an entry point to its C function.
 pub mod Reporting
-pub mod Demands
+pub mod Demand1
+pub mod Demand2
+pub mod Demand3

@@ -1,6 +1,6 @@
 -- The root of the crate's definitions. What a reader must believe: Refused, the refusal numbers; Reply, questions and what a call leaves; Registry, document
--- 01's calls; Sound, its soundness; Rust, the Rust's methods; Replies, the Rust's results in 01's words; Book, 01's book; Runs, lists of calls; Demand2, what
--- demand 2 is said with. laws/ is what is proved of these.
+-- 01's calls; Sound, its soundness; Rust, the Rust's methods; Replies, the Rust's results in 01's words; Book, 01's book; Runs, lists of calls; Demand1 and Demand2,
+-- what these demands are said with. laws/ is what is proved of these.
 pub mod Refused
 pub mod Reply
 pub mod Registry
@@ -9,5 +9,6 @@ pub mod Rust
 pub mod Replies
 pub mod Book
 pub mod Runs
+pub mod Demand1
 pub mod Demand2
 pub mod laws

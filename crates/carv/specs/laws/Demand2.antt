@@ -1,0 +1,66 @@
+-- Demand 2 is proved: a call that returns no added refusal is answered as the Rust's method, and leaves its board. Assumes nothing.
+use mathlib.Core.Path.{_≡_, refl, sym, ap, _∙_, subst}
+use mathlib.Core.Bool.{true, false, true≢false}
+use mathlib.Core.List.{List, [], _∷_}
+use Prim.Native.Nat.{ℕ}
+use Rattle.carv_area.specs.Table.{test}
+use Rattle.carv_objects_spec.specs.Book as objects
+use Rattle.carv_scheduler.specs.Answer.{number}
+use Rattle.carv_scheduler_spec.specs.Scheduler.{Board}
+use Rattle.carv_scheduler_spec.specs.Rust as rust
+use Rattle.carv_scheduler_spec.specs.laws.Refines as refines
+use Rattle.carv_scheduler.specs.Area.{decode, sound-area}
+use Rattle.carv_scheduler.specs.laws.AreaLaws.{area-sound}
+use Rattle.carv.specs.C.{Opens, Made, lent}
+use Rattle.carv_scheduler_spec.specs.Book.{Call, on-objects, create-user-thread, start, block-current, wake, is-blocked-on, kill, tick, plan, read-thread, read-current, read-switches, exit-of}
+use Rattle.carv_scheduler_spec.specs.Runs.{run, after}
+use Rattle.carv_scheduler_spec.specs.laws.Demand2 as definitions
+use Rattle.carv_scheduler_spec.specs.Demand2.{rust-run, is-added}
+use Rattle.carv.specs.Demands.{Ran, GivenAs, AsRust, NoneAdded, Demand2}
+use Rattle.carv.specs.laws.Demand1.{pieces, opened-is}
+
+-- refusal 1 is an added one
+one-registry : (c : objects.Call) → is-added (on-objects c) 1 ≡ true
+one-registry (objects.create kind payer backing) = refl
+one-registry (objects.insert kind payer bytes) = refl
+one-registry (objects.create-budget parent cpu memory time) = refl
+one-registry (objects.charge-more i bytes) = refl
+one-registry (objects.uncharge i bytes) = refl
+one-registry (objects.remove i) = refl
+one-registry (objects.refill i time) = refl
+one-registry (objects.charge-cpu i ns time) = refl
+one-registry (objects.pays-for-anything i) = refl
+one-registry (objects.read-account i) = refl
+one-registry (objects.charge-of i) = refl
+
+one-added : (c : Call) → is-added c 1 ≡ true
+one-added (on-objects c) = one-registry c
+one-added (create-user-thread i budget stack) = refl
+one-added (start i space cspace root context) = refl
+one-added (block-current kind number) = refl
+one-added (wake i r) = refl
+one-added (is-blocked-on i kind number) = refl
+one-added (kill i cause) = refl
+one-added (tick n) = refl
+one-added (plan n) = refl
+one-added (read-thread i) = refl
+one-added read-current = refl
+one-added read-switches = refl
+one-added (exit-of i) = refl
+
+as-rust : (es : List Made) (a : List ℕ) → sound-area a ≡ true → Ran es a → NoneAdded es → (b : Board) → decode a ≡ b → AsRust es b
+as-rust [] a s h n b q = tt
+as-rust (e ∷ es) a s h n b q =
+    let d = pieces a e (h .0) in
+    let y : lent e ≡ true = test (lent e) (λ y. y) (λ y. absurd (true≢false (sym (one-added (e .call)) ∙ ap (is-added (e .call)) (sym (d .lengths y .number)) ∙ n .0))) in
+    let g = d .served y s in
+    let r : run (e .call) (decode a) ≡ rust-run (e .call) b =
+    definitions.run-rust (e .call) (decode a) (area-sound a s) (ap (is-added (e .call)) (sym (g .number)) ∙ n .0) ∙ ap (rust-run (e .call)) q in
+    let g′ : GivenAs e (rust-run (e .call) b) = subst (GivenAs e) r g in
+    (g′, as-rust es (e .left) (g′ .area .sound) (h .1) (n .1) (rust-run (e .call) b .after) (g′ .area .same))
+
+-- Demand 2.
+pub demand2 : Demand2
+demand2 cpu memory a₀ a out out′ o es h n =
+    let (c, i) = opened-is cpu memory a₀ a out out′ o in
+    as-rust es a (i .sound) h n (rust.new cpu memory) (i .same ∙ refines.opening-rust cpu memory c)

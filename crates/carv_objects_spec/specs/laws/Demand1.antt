@@ -1,0 +1,120 @@
+-- A refused call of the registry leaves what specs/Demand1.antt says, and no call answers 1. Assumes nothing.
+use mathlib.Core.Path.{_≡_, refl, ap, _∙_}
+use mathlib.Core.Bool.{Bool, true, false, cond, not, _&&_, _||_}
+use mathlib.Core.Option.{Option, none, some}
+use Prim.Native.Nat.{ℕ, _≤_}
+use native.Mathlib.Omega.{arith}
+use lib.Dec.{eqb, leb}
+use Rattle.carv_area.specs.Table.{test}
+use Rattle.carv_budget.specs.Account as account
+use Rattle.carv_objects_spec.specs.Reply.{refuse}
+use Rattle.carv_objects_spec.specs.Registry.{Registry, RegistryReply, entry, has, is-budget, account-of, payer-of, pays-for, budget, listed, bytes-of, creatable, needs-backing, has-place, has-next}
+use Rattle.carv_objects_spec.specs.Book.{Call, create, insert, create-budget, charge-more, uncharge, remove, refill, charge-cpu, pays-for-anything, read-account, charge-of}
+use Rattle.carv_objects_spec.specs.Runs.{run}
+use Rattle.carv_objects_spec.specs.Demand1.{renewal-left, with-renewal}
+use Rattle.carv_budget.specs.laws.Account.{first, second}
+use Rattle.carv_objects_spec.specs.laws.Questions.{create-budget-full, create-budget-payer, create-budget-cover, create-budget-carve, create-budget-done, charge-cpu-missing, charge-cpu-above, charge-cpu-done, refill-done}
+
+-- what is shown of a reply: refused, it leaves r; and its number is not 1
+record Keeps (r : Registry) (z : RegistryReply) : Type 0 where
+  left : (z .number ≡ 0 → ⊥) → z .after ≡ r
+  not-one : z .number ≡ 1 → ⊥
+
+accepted : (r : Registry) (z : RegistryReply) → z .number ≡ 0 → Keeps r z
+accepted r z e = record { left = λ q. absurd (q e); not-one = λ q. omega (arith, e, q) }
+
+-- a question past 1 that is missed
+ask : (n : ℕ) (b : Bool) (r : Registry) {k : RegistryReply} → 2 ≤ n → Keeps r k → Keeps r (cond b k (refuse n r))
+ask n true r h k = k
+ask n false r h k = record { left = λ q. refl; not-one = λ q. omega arith }
+
+-- what a call that is refused leaves, and that it is not refused with 1
+pub record Leaves (c : Call) (r : Registry) : Type 0 where
+  pub left : (run c r .number ≡ 0 → ⊥) → run c r .after ≡ with-renewal (renewal-left c (run c r .number) r) r
+  pub not-one : run c r .number ≡ 1 → ⊥
+
+kept : (c : Call) (r : Registry) → ((n : ℕ) → renewal-left c n r ≡ none) → Keeps r (run c r) → Leaves c r
+kept c r h k = record { left = λ q. rw (h (run c r .number)) (k .left q); not-one = k .not-one }
+
+-- accepted, or refused by a question before the renewal, or by one past it
+module _ (c : Call) (r : Registry) where
+  leaves-accepted : run c r .number ≡ 0 → Leaves c r
+  leaves-accepted e = record { left = λ q. absurd (q e); not-one = λ q. omega (arith, e, q) }
+
+  leaves-refused : (n : ℕ) (s : Registry) → run c r ≡ refuse n s → 2 ≤ n → with-renewal (renewal-left c n r) r ≡ s → Leaves c r
+  leaves-refused n s e h w = record { left = λ q. rw (e, w); not-one = λ q. let z : n ≡ 1 = rw e at q in omega arith }
+
+renewed-left : (i time : ℕ) (r : Registry) → is-budget r i ≡ true → with-renewal (some (i, time)) r ≡ budget i (λ a. account.renew a time) r
+renewed-left i time r d = ap (λ (z : RegistryReply). z .after) (refill-done i time r d)
+
+carve-renewal : (parent cpu memory time : ℕ) (r : Registry) (b : Bool) → leb 128 (account.free (account-of r parent)) ≡ b
+    → renewal-left (create-budget parent cpu memory time) 12 r ≡ cond b (some (parent, time)) none
+carve-renewal parent cpu memory time r b e = rw e
+
+carve-leaves : (parent cpu memory time : ℕ) (r : Registry) → Leaves (create-budget parent cpu memory time) r
+carve-leaves parent cpu memory time r =
+    test (has-place r && has-next r)
+    (λ c. test (is-budget r parent)
+    (λ d. test (leb 128 (account.free (account-of r parent)))
+    (λ e. test (leb cpu (account.renew (account-of r parent) time .«cpu_left») && leb memory (account.free (account.charge (account-of r parent) 128)))
+    (λ f. leaves-accepted call r (ap (λ (z : RegistryReply). z .number) (create-budget-done parent cpu memory time r c d e (first cpu-there memory-there f) (second cpu-there memory-there f))))
+    (λ f. leaves-refused call r 12 _ (create-budget-carve parent cpu memory time r c d e f) (omega arith)
+    (ap (λ (o : Option (ℕ × ℕ)). with-renewal o r) (carve-renewal parent cpu memory time r true e) ∙ renewed-left parent time r d)))
+    (λ e. leaves-refused call r 12 r (create-budget-cover parent cpu memory time r c d e) (omega arith)
+    (ap (λ (o : Option (ℕ × ℕ)). with-renewal o r) (carve-renewal parent cpu memory time r false e))))
+    (λ d. leaves-refused call r 7 r (create-budget-payer parent cpu memory time r c d) (omega arith) refl))
+    (λ c. leaves-refused call r 6 r (create-budget-full parent cpu memory time r c) (omega arith) refl)
+  where
+    call : Call
+    call = create-budget parent cpu memory time
+
+    cpu-there : Bool
+    cpu-there = leb cpu (account.renew (account-of r parent) time .«cpu_left»)
+
+    memory-there : Bool
+    memory-there = leb memory (account.free (account.charge (account-of r parent) 128))
+
+cpu-leaves : (i ns time : ℕ) (r : Registry) → Leaves (charge-cpu i ns time) r
+cpu-leaves i ns time r =
+    test (is-budget r i)
+    (λ d. test (leb ns (account.renew (account-of r i) time .«cpu_left»))
+    (λ e. leaves-accepted (charge-cpu i ns time) r (ap (λ (z : RegistryReply). z .number) (charge-cpu-done i ns time r d e)))
+    (λ e. leaves-refused (charge-cpu i ns time) r 12 _ (charge-cpu-above i ns time r d e) (omega arith) (renewed-left i time r d)))
+    (λ d. leaves-refused (charge-cpu i ns time) r 7 r (charge-cpu-missing i ns time r d) (omega arith) refl)
+
+pub leaves : (c : Call) (r : Registry) → Leaves c r
+leaves (create kind payer backing) r = kept (create kind payer backing) r (λ n. refl)
+    (ask 4 (listed kind) r (omega arith) (ask 6 (has-place r) r (omega arith) (ask 6 (has-next r) r (omega arith)
+    (ask 7 (is-budget r payer) r (omega arith) (ask 12 (leb (bytes-of kind) (account.free (account-of r payer))) r (omega arith)
+    (ask 13 (creatable kind) r (omega arith) (ask 14 (not (needs-backing kind) || backing) r (omega arith) (accepted r _ refl))))))))
+leaves (insert kind payer bytes) r = kept (insert kind payer bytes) r (λ n. refl)
+    (ask 4 (listed kind) r (omega arith) (ask 4 (not (eqb kind 6)) r (omega arith) (ask 6 (has-place r) r (omega arith)
+    (ask 6 (has-next r) r (omega arith) (ask 7 (is-budget r payer) r (omega arith)
+    (ask 12 (leb bytes (account.free (account-of r payer))) r (omega arith) (accepted r _ refl)))))))
+leaves (create-budget parent cpu memory time) r = carve-leaves parent cpu memory time r
+leaves (charge-more i bytes) r = kept (charge-more i bytes) r (λ n. refl)
+    (ask 7 (has r i) r (omega arith) (ask 12 (leb bytes (account.free (account-of r (payer-of r i)))) r (omega arith) (accepted r _ refl)))
+leaves (uncharge i bytes) r = kept (uncharge i bytes) r (λ n. refl)
+    (ask 7 (has r i) r (omega arith) (ask 11 (leb bytes (entry r i .charge)) r (omega arith) (accepted r _ refl)))
+leaves (remove i) r = kept (remove i) r (λ n. refl)
+    (ask 7 (has r i) r (omega arith) (ask 9 (not (eqb i 1)) r (omega arith) (ask 10 (not (is-budget r i && pays-for r i)) r (omega arith)
+    (ask 15 (not (is-budget r i) || account.returnable (account-of r (payer-of r i)) (account-of r i)) r (omega arith) (accepted r _ refl)))))
+leaves (refill i time) r = kept (refill i time) r (λ n. refl) (ask 7 (is-budget r i) r (omega arith) (accepted r _ refl))
+leaves (charge-cpu i ns time) r = cpu-leaves i ns time r
+leaves (pays-for-anything i) r = kept (pays-for-anything i) r (λ n. refl) (accepted r _ refl)
+leaves (read-account i) r = kept (read-account i) r (λ n. refl) (ask 7 (is-budget r i) r (omega arith) (accepted r _ refl))
+leaves (charge-of i) r = kept (charge-of i) r (λ n. refl) (ask 7 (has r i) r (omega arith) (accepted r _ refl))
+
+-- question 1 leaves no renewal
+pub one-renews-not : (c : Call) (r : Registry) → renewal-left c 1 r ≡ none
+one-renews-not (create kind payer backing) r = refl
+one-renews-not (insert kind payer bytes) r = refl
+one-renews-not (create-budget parent cpu memory time) r = refl
+one-renews-not (charge-more i bytes) r = refl
+one-renews-not (uncharge i bytes) r = refl
+one-renews-not (remove i) r = refl
+one-renews-not (refill i time) r = refl
+one-renews-not (charge-cpu i ns time) r = refl
+one-renews-not (pays-for-anything i) r = refl
+one-renews-not (read-account i) r = refl
+one-renews-not (charge-of i) r = refl

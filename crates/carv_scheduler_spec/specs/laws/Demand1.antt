@@ -1,0 +1,76 @@
+-- A refused call leaves what specs/Demand1.antt says, and no call on a board answers 1. Assumes nothing.
+use mathlib.Core.Path.{_≡_, refl, sym, ap, _∙_}
+use mathlib.Core.Bool.{Bool, true, false, cond, not}
+use mathlib.Core.Option.{Option, none}
+use Prim.Native.Nat.{ℕ, _≤_}
+use native.Mathlib.Omega.{arith}
+use lib.Dec.{eqb, ltb}
+use lib.ListN.{length}
+use Rattle.carv_objects_spec.specs.Reply.{refuse}
+use Rattle.carv_objects_spec.specs.Registry.{Registry}
+use Rattle.carv_objects_spec.specs.laws.Demand1 as objects
+use Rattle.carv_scheduler_spec.specs.Scheduler as scheduler
+use Rattle.carv_scheduler_spec.specs.Scheduler.{Board, BoardReply, idle, inactive, running, blocked, is, wait-listed, cause-listed, tick-fits, thread, has}
+use Rattle.carv_scheduler_spec.specs.Book.{Call, on-objects, create-user-thread, start, block-current, wake, is-blocked-on, kill, tick, plan, read-thread, read-current, read-switches, exit-of}
+use Rattle.carv_scheduler_spec.specs.Runs.{run}
+use Rattle.carv_scheduler_spec.specs.Demand1.{renewal-left, with-renewal}
+
+-- what is shown of a reply: refused, it leaves b; and its number is not 1
+record Keeps (b : Board) (z : BoardReply) : Type 0 where
+  left : (z .number ≡ 0 → ⊥) → z .after ≡ b
+  not-one : z .number ≡ 1 → ⊥
+
+accepted : (b : Board) (z : BoardReply) → z .number ≡ 0 → Keeps b z
+accepted b z e = record { left = λ q. absurd (q e); not-one = λ q. omega (arith, e, q) }
+
+-- a question past 1 that is missed
+ask : (n : ℕ) (c : Bool) (b : Board) {k : BoardReply} → 2 ≤ n → Keeps b k → Keeps b (cond c k (refuse n b))
+ask n true b h k = k
+ask n false b h k = record { left = λ q. refl; not-one = λ q. omega arith }
+
+-- what a call that is refused leaves, and that it is not refused with 1
+pub record Leaves (c : Call) (b : Board) : Type 0 where
+  pub left : (run c b .number ≡ 0 → ⊥) → run c b .after ≡ with-renewal (renewal-left c (run c b .number) b) b
+  pub not-one : run c b .number ≡ 1 → ⊥
+
+kept : (c : Call) (b : Board) → ((n : ℕ) → renewal-left c n b ≡ none) → Keeps b (run c b) → Leaves c b
+kept c b h k = record { left = λ q. k .left q ∙ ap (λ (o : Option (ℕ × ℕ)). with-renewal o b) (sym (h (run c b .number))); not-one = k .not-one }
+
+pub leaves : (c : Call) (b : Board) → Leaves c b
+leaves (on-objects c) b = let h = objects.leaves c (b .registry) in
+    record { left = λ q. ap (λ (r : Registry). scheduler.with-registry r b) (h .left q); not-one = h .not-one }
+leaves (create-user-thread i budget stack) b = kept (create-user-thread i budget stack) b (λ n. refl)
+    (ask 5 (not (has (b .threads) i)) b (omega arith) (ask 5 (not (eqb i 0)) b (omega arith) (ask 5 (not (eqb i idle)) b (omega arith)
+    (ask 6 (ltb (length (b .threads)) 128) b (omega arith) (ask 14 stack b (omega arith) (accepted b _ refl))))))
+leaves (start i space cspace root context) b = kept (start i space cspace root context) b (λ n. refl)
+    (ask 7 (has (b .threads) i) b (omega arith) (ask 8 (is inactive (thread (b .threads) i)) b (omega arith) (accepted b _ refl)))
+leaves (block-current kind number) b = kept (block-current kind number) b (λ n. refl)
+    (ask 4 (wait-listed kind) b (omega arith) (ask 8 (is running (thread (b .threads) (b .current))) b (omega arith)
+    (ask 8 (not (eqb (b .current) idle)) b (omega arith) (accepted b _ refl))))
+leaves (wake i r) b = kept (wake i r) b (λ n. refl)
+    (ask 7 (has (b .threads) i) b (omega arith) (ask 8 (is blocked (thread (b .threads) i)) b (omega arith) (accepted b _ refl)))
+leaves (is-blocked-on i kind number) b = kept (is-blocked-on i kind number) b (λ n. refl) (ask 4 (wait-listed kind) b (omega arith) (accepted b _ refl))
+leaves (kill i cause) b = kept (kill i cause) b (λ n. refl)
+    (ask 4 (cause-listed cause) b (omega arith) (ask 5 (not (eqb i idle)) b (omega arith) (ask 7 (has (b .threads) i) b (omega arith) (accepted b _ refl))))
+leaves (tick m) b = kept (tick m) b (λ n. refl) (ask 3 (tick-fits m) b (omega arith) (accepted b _ refl))
+leaves (plan m) b = kept (plan m) b (λ n. refl) (ask 3 (tick-fits m) b (omega arith) (accepted b _ refl))
+leaves (read-thread i) b = kept (read-thread i) b (λ n. refl) (ask 7 (has (b .threads) i) b (omega arith) (accepted b _ refl))
+leaves read-current b = kept read-current b (λ n. refl) (accepted b _ refl)
+leaves read-switches b = kept read-switches b (λ n. refl) (accepted b _ refl)
+leaves (exit-of i) b = kept (exit-of i) b (λ n. refl) (accepted b _ refl)
+
+-- question 1 leaves no renewal
+pub one-renews-not : (c : Call) (b : Board) → renewal-left c 1 b ≡ none
+one-renews-not (on-objects c) b = objects.one-renews-not c (b .registry)
+one-renews-not (create-user-thread i budget stack) b = refl
+one-renews-not (start i space cspace root context) b = refl
+one-renews-not (block-current kind number) b = refl
+one-renews-not (wake i r) b = refl
+one-renews-not (is-blocked-on i kind number) b = refl
+one-renews-not (kill i cause) b = refl
+one-renews-not (tick m) b = refl
+one-renews-not (plan m) b = refl
+one-renews-not (read-thread i) b = refl
+one-renews-not read-current b = refl
+one-renews-not read-switches b = refl
+one-renews-not (exit-of i) b = refl
