@@ -11,4 +11,5 @@ pub mod Book
 pub mod Runs
 pub mod Demand1
 pub mod Demand2
+pub mod Panics
 pub mod laws

@@ -11,3 +11,4 @@ pub mod Demand2
 pub mod Questions
 pub mod Edges
 pub mod Asked
+pub mod Panics

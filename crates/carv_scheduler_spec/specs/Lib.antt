@@ -10,4 +10,5 @@ pub mod Runs
 pub mod Demand1
 pub mod Demand2
 pub mod Demand3
+pub mod Panics
 pub mod laws

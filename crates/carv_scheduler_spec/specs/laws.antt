@@ -1,6 +1,6 @@
 -- What is proved of the definitions. Questions: each question of each call. Demand1: what a refusal leaves. Kept: calls keep soundness, which SoundFacts has as facts. Refines, Demand2: the
 -- calls, and lists of them, are the Rust's. Following, History, Demand3: the book follows the board, so its figures are the lines and its choice runs. Edges:
--- document 01's cases in one list. The others serve these.
+-- document 01's cases in one list. Panics: the Rust doesn't panic. The others serve these.
 pub mod SoundFacts
 pub mod Reading
 pub mod SoundLaws
@@ -15,3 +15,4 @@ pub mod Demand1
 pub mod Demand2
 pub mod Demand3
 pub mod Edges
+pub mod Panics
