@@ -6,7 +6,7 @@ use mathlib.Core.List.{List, [], _∷_, _++_}
 use Prim.Native.Nat.{ℕ, _+_, _-_, _*_, _^_, _%_, _≤_, _<_}
 use lib.Dec.{ltb}
 use Rattle.carv_budget.specs.declared.Account.{Account}
-use Rattle.carv_budget.specs.Account.{period}
+use Rattle.carv_budget.specs.Rust.{cpu-period-ns}
 use Rattle.carv_budget.specs.Rust as rust
 
 pub data Check : Type 0 where
@@ -51,8 +51,8 @@ refill self now =
     cond (ltb now (self .«period_start»)) []
     (let elapsed : ℕ = now - self .«period_start» in
     difference now (self .«period_start»)
-    ∷ cond (ltb elapsed period) []
-    (remainder elapsed period ∷ difference now (elapsed % period) ∷ difference (self .«cpu_allowance») (self .«cpu_reserved») ∷ []))
+    ∷ cond (ltb elapsed cpu-period-ns) []
+    (remainder elapsed cpu-period-ns ∷ difference now (elapsed % cpu-period-ns) ∷ difference (self .«cpu_allowance») (self .«cpu_reserved») ∷ []))
 
 -- `Budget::charge_cpu`: 150 `self.cpu_remaining_ns -= amount_ns`
 unfoldable pub charge-cpu : Account → (amount now : ℕ) → List Check

@@ -7,12 +7,11 @@ use mathlib.Core.List.{List, [], _∷_, _++_}
 use Prim.Native.Nat.{ℕ, suc, _-_, _^_, _≤_, _<_}
 use lib.Dec.{eqb}
 use Rattle.carv_budget.specs.declared.Account.{Account}
-use Rattle.carv_budget.specs.Account.{period}
 use Rattle.carv_budget.specs.Rust as budget
 use Rattle.carv_budget.specs.Panics as budget-panics
 use Rattle.carv_budget.specs.Panics.{Check, sum, expect, AllPass}
 use Rattle.carv_objects_spec.specs.declared.Entry.{Entry}
-use Rattle.carv_objects_spec.specs.Registry.{Registry, account-of, object}
+use Rattle.carv_objects_spec.specs.Registry.{Registry, account-of}
 use Rattle.carv_objects_spec.specs.Rust as rust
 use Rattle.carv_objects_spec.specs.Book as book
 use Rattle.carv_objects_spec.specs.Book.{Call}
@@ -54,7 +53,7 @@ charge-more id bytes self = if-some (rust.get id self) λ e.
 
 -- 243 `uncharge`: it lowers the entry's charge by `saturating_sub`, then credits
 abbrev pub uncharge : (id bytes : ℕ) → Registry → List Check
-uncharge id bytes self = if-some (rust.get id self) λ e. credit (e .payer) bytes (object id (λ c. c - bytes) self)
+uncharge id bytes self = if-some (rust.get id self) λ e. credit (e .payer) bytes (rust.write-charged id (λ charged. charged - bytes) self)
 
 -- 252 `insert`: 260 `self.next_id += 1`
 abbrev pub insert : (payer bytes : ℕ) → Registry → List Check
@@ -117,7 +116,7 @@ charge-cpu id amount now self = if-some (rust.budget-mut id self) λ b. budget-p
 
 -- 166 `ObjectRegistry::new`: 174 `.expect("root budget fits its period")`
 abbrev pub new : (ids cpu memory : ℕ) → List Check
-new ids cpu memory = budget-panics.new ids cpu period memory 0 ++ (expect (is-ok (budget.new cpu period memory 0)) ∷ [])
+new ids cpu memory = budget-panics.new ids cpu rust.CPU-PERIOD-NS memory 0 ++ (expect (is-ok (budget.new cpu rust.CPU-PERIOD-NS memory 0)) ∷ [])
 
 -- Calls. `ids` is `NEXT_BUDGET_ID`, the Rust's counter of budgets ever made.
 

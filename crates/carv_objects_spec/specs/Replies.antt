@@ -2,7 +2,7 @@
 -- here, beside the Rust's errors, and not taken from Refused.antt. Assumes nothing.
 use mathlib.Core.Bool.{Bool, true, false}
 use mathlib.Core.Option.{Option, none, some}
-use Prim.Native.Nat.{ℕ, _-_}
+use Prim.Native.Nat.{ℕ}
 use Rattle.carv_objects_spec.specs.Reply.{refuse, accept, Value, id, renewed}
 use Rattle.carv_objects_spec.specs.Registry.{Registry, RegistryReply}
 use Rattle.carv_objects_spec.specs.Rust.{ObjectError, not-found, budget-exceeded, invalid-method, root-budget, in-use, out-of-memory, Result, ok, err, Call}

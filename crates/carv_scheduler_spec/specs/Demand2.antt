@@ -6,23 +6,22 @@ use mathlib.Core.List.{List, [], _∷_}
 use Prim.Native.Nat.{ℕ}
 use Rattle.carv_objects_spec.specs.Reply.{accept}
 use Rattle.carv_objects_spec.specs.Demand2 as objects
-use Rattle.carv_scheduler_spec.specs.Scheduler as scheduler
-use Rattle.carv_scheduler_spec.specs.Scheduler.{Board, BoardReply, is-blocked, record-of, word, exit-cause, wait, has}
+use Rattle.carv_scheduler_spec.specs.Scheduler.{Board, BoardReply, is-blocked, record-of, word, exit-cause}
 use Rattle.carv_scheduler_spec.specs.Rust as rust
 use Rattle.carv_scheduler_spec.specs.Book.{Call, on-objects, create-user-thread, start, block-current, wake, is-blocked-on, kill, tick, plan, read-thread, read-current, read-switches, exit-of}
-use Rattle.carv_scheduler_spec.specs.Replies.{creation-reply-of, said-reply-of, kill-reply-of, plan-reply-of, reading-of}
+use Rattle.carv_scheduler_spec.specs.Replies.{there, creation-reply-of, said-reply-of, kill-reply-of, plan-reply-of, reading-of, objects-reply-of}
 use Rattle.carv_objects_spec.specs.Refused.{added, added-to-block}
 use Rattle.carv_scheduler_spec.specs.Runs.{run}
 
 -- the Rust's method, its result in the port's words
 abbrev pub rust-run : Call → Board → BoardReply
-rust-run (on-objects c) b = scheduler.on-registry (objects.rust-run c (b .registry)) b
+rust-run (on-objects c) b = objects-reply-of (objects.rust-run c (b .registry)) b
 rust-run (create-user-thread i budget stack) b = creation-reply-of (rust.create-user-thread i budget stack b)
-rust-run (start i space cspace root context) b = said-reply-of (has (b .threads) i) (rust.start i space cspace root context b)
-rust-run (block-current kind number) b = accept none (rust.block-current (wait kind number) b)
-rust-run (wake i r) b = said-reply-of (has (b .threads) i) (rust.wake i r b)
-rust-run (is-blocked-on i kind number) b = accept (some (is-blocked (rust.is-blocked-on i (wait kind number) b))) b
-rust-run (kill i cause) b = kill-reply-of (has (b .threads) i) (rust.kill i cause b)
+rust-run (start i space cspace root context) b = said-reply-of (there (rust.thread i b)) (rust.start i space cspace root context b)
+rust-run (block-current kind number) b = accept none (rust.block-current (rust.wait kind number) b)
+rust-run (wake i r) b = said-reply-of (there (rust.thread i b)) (rust.wake i r b)
+rust-run (is-blocked-on i kind number) b = accept (some (is-blocked (rust.is-blocked-on i (rust.wait kind number) b))) b
+rust-run (kill i cause) b = kill-reply-of (there (rust.thread i b)) (rust.kill i cause b)
 rust-run (tick n) b = accept none (rust.tick n b)
 rust-run (plan n) b = plan-reply-of (rust.plan n b)
 rust-run (read-thread i) b = reading-of record-of (rust.thread i b) b

@@ -3,8 +3,11 @@
 use mathlib.Core.Bool.{Bool, true, false}
 use mathlib.Core.Option.{Option, none, some}
 use Rattle.carv_objects_spec.specs.Reply.{refuse, accept}
+use Rattle.carv_objects_spec.specs.Reply as objects
+use Rattle.carv_objects_spec.specs.Registry.{RegistryReply}
 use Rattle.carv_scheduler_spec.specs.declared.Wait.{Wait}
-use Rattle.carv_scheduler_spec.specs.Scheduler.{Board, BoardReply, Value, no-switch, switch, ended}
+use Rattle.carv_scheduler_spec.specs.declared.Thread.{Thread}
+use Rattle.carv_scheduler_spec.specs.Scheduler.{Board, BoardReply, Value, of-registry, no-switch, switch, ended}
 use Rattle.carv_scheduler_spec.specs.Rust as rust
 use Rattle.carv_scheduler_spec.specs.Rust.{Call}
 
@@ -15,6 +18,11 @@ creation-result-of (some _) self = accept none self
 
 abbrev pub creation-reply-of : Call (Option (Unit {0})) → BoardReply
 creation-reply-of c = creation-result-of (c .result) (c .self)
+
+-- `self.thread(id)` is `Some`
+abbrev pub there : Option Thread → Bool
+there none = false
+there (some _) = true
 
 -- `false` of `start` and of `wake` is 7 where the thread is not there, and 8 where it is
 abbrev pub said-result-of : (there : Bool) → Bool → Board → BoardReply
@@ -41,3 +49,11 @@ plan-reply-of c = accept (some (switch-of (c .result))) (c .self)
 abbrev pub reading-of : {A : Type 0} → (A → Value) → Option A → Board → BoardReply
 reading-of value none self = refuse 7 self
 reading-of value (some a) self = accept (some (value a)) self
+
+-- a method of the registry: the reply to it, and the registry that it leaves, on the board
+abbrev pub objects-value : Option objects.Value → Option Value
+objects-value none = none
+objects-value (some v) = some (of-registry v)
+
+abbrev pub objects-reply-of : RegistryReply → Board → BoardReply
+objects-reply-of a self = record { number = a .number; value = objects-value (a .value); after = rust.write-objects (a .after) self }

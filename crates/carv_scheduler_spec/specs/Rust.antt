@@ -1,9 +1,10 @@
 -- kernel/src/scheduler.rs: `Scheduler` and its methods, statement by statement, over the board: the scheduler's fields and the registry that `tick` and `plan` are lent.
--- `KernelStack::new` answers yes or no. Saved stack pointers, kernel stacks, `Ipc`, `reply_to` and zombies belong to the host. Assumes nothing.
+-- Of document 01's side only the records are used. `KernelStack::new` answers yes or no. Saved stack pointers, kernel stacks, `Ipc`, `reply_to` and zombies belong to
+-- the host. Assumes nothing.
 use mathlib.Core.Bool.{Bool, true, false, cond, not, _&&_}
 use mathlib.Core.Option.{Option, none, some}
 use mathlib.Core.List.{List, [], _∷_, _++_}
-use Prim.Native.Nat.{ℕ, zero, suc, _+_, _*_, _^_, _%_}
+use Prim.Native.Nat.{ℕ, zero, suc, _+_, _-_, _*_, _/_, _^_, _%_}
 use lib.Dec.{eqb, ltb, leb}
 use lib.ListN.{length, drop}
 use Rattle.carv_area.specs.Table.{at, alter, erase, put, pick}
@@ -16,7 +17,84 @@ use Rattle.carv_scheduler_spec.specs.declared.Context.{Context}
 use Rattle.carv_scheduler_spec.specs.declared.Results.{Results}
 use Rattle.carv_scheduler_spec.specs.declared.Thread.{Thread}
 use Rattle.carv_scheduler_spec.specs.declared.Exit.{Exit}
-use Rattle.carv_scheduler_spec.specs.Scheduler.{Board, idle, inactive, ready, running, blocked, dead, is, no-wait, wait-of, in-spaces, results, with-registry, root-of}
+use Rattle.carv_scheduler_spec.specs.Scheduler.{Board}
+
+-- `BOOT_THREAD`
+abbrev pub BOOT-THREAD : ℕ
+BOOT-THREAD = 0
+
+-- `IDLE_THREAD`, which is `u64::MAX`
+abbrev pub IDLE-THREAD : ℕ
+IDLE-THREAD = 2 ^ 64 - 1
+
+-- `TICK_NS`, where `TIMER_HZ` of arch/x86_64/apic.rs is 1000
+abbrev pub TICK-NS : ℕ
+TICK-NS = 1_000_000_000 / 1000
+
+-- `EXIT_LOG`
+abbrev pub EXIT-LOG : ℕ
+EXIT-LOG = 32
+
+-- `State`, a number for each variant. What `Blocked` carries stands beside it, in the thread's wait.
+
+-- `State::Inactive`
+abbrev pub State·Inactive : ℕ
+State·Inactive = 1
+
+-- `State::Ready`
+abbrev pub State·Ready : ℕ
+State·Ready = 2
+
+-- `State::Running`
+abbrev pub State·Running : ℕ
+State·Running = 3
+
+-- `State::Blocked(_)`
+abbrev pub State·Blocked : ℕ
+State·Blocked = 4
+
+-- `State::Dead`
+abbrev pub State·Dead : ℕ
+State·Dead = 5
+
+-- `Wait`, a number for each variant, and beside it the number that the variant carries. The methods tell only `Sleep` from the others. (Nor do they look into an
+-- `Exit`: 1 `Destroyed`, 2 `Faulted`.)
+
+-- `Wait::Send(_)`
+abbrev pub Wait·Send : ℕ
+Wait·Send = 1
+
+-- `Wait::Recv(_)`
+abbrev pub Wait·Recv : ℕ
+Wait·Recv = 2
+
+-- `Wait::Reply(_)`
+abbrev pub Wait·Reply : ℕ
+Wait·Reply = 3
+
+-- `Wait::Notification(_)`
+abbrev pub Wait·Notification : ℕ
+Wait·Notification = 4
+
+-- `Wait::Sleep(_)`
+abbrev pub Wait·Sleep : ℕ
+Wait·Sleep = 5
+
+-- the variant `kind` with `number` in it
+abbrev pub wait : (kind number : ℕ) → Wait
+wait kind number = record { kind = kind; number = number }
+
+-- what stands for the wait where the state is not `Blocked`
+abbrev pub no-wait : Wait
+no-wait = record { kind = 0; number = 0 }
+
+-- `t.state == ..`, and for `Blocked` `matches!(t.state, State::Blocked(_))`
+abbrev pub in-state : (state : ℕ) → Thread → Bool
+in-state state t = eqb (t .state) state
+
+-- `match t.state { State::Blocked(w) => Some(w), _ => None }`
+abbrev pub blocked-wait : Thread → Option Wait
+blocked-wait t = cond (in-state State·Blocked t) (some (t .wait)) none
 
 -- what a method leaves and returns
 pub record Call (A : Type 0) : Type 0 where
@@ -40,7 +118,7 @@ set-entry space cspace root entry t = record {
   state = t .state;
   wait = t .wait;
   budget = t .budget;
-  spaces = in-spaces space cspace root;
+  spaces = record { is = 1; space = space; cspace = cspace; root = root };
   context = entry;
   results = t .results;
   ticks = t .ticks;
@@ -58,6 +136,10 @@ count-tick t = record { state = t .state; wait = t .wait; budget = t .budget; sp
 abbrev pub write-thread : ℕ → (Thread → Thread) → Board → Board
 write-thread id f self = record { registry = self .registry; threads = alter id f (self .threads); queue = self .queue; current = self .current; switches = self .switches; exits = self .exits }
 
+-- what is left in `objects: &mut ObjectRegistry`
+abbrev pub write-objects : Registry → Board → Board
+write-objects r self = record { registry = r; threads = self .threads; queue = self .queue; current = self .current; switches = self .switches; exits = self .exits }
+
 -- `self.threads.insert(id, tcb)`, `self.threads.remove(&id)`
 abbrev pub insert-thread : ℕ → Thread → Board → Board
 insert-thread id t self = record { registry = self .registry; threads = put id t (self .threads); queue = self .queue; current = self .current; switches = self .switches; exits = self .exits }
@@ -65,7 +147,7 @@ insert-thread id t self = record { registry = self .registry; threads = put id t
 abbrev pub remove-thread : ℕ → Board → Board
 remove-thread id self = record { registry = self .registry; threads = erase id (self .threads); queue = self .queue; current = self .current; switches = self .switches; exits = self .exits }
 
--- `self.ready`
+-- what is left in `self.ready`
 abbrev pub write-queue : List ℕ → Board → Board
 write-queue q self = record { registry = self .registry; threads = self .threads; queue = q; current = self .current; switches = self .switches; exits = self .exits }
 
@@ -103,70 +185,71 @@ on-budget id t = record { state = t .state; wait = t .wait; budget = record { is
 -- `create_user_thread`
 abbrev pub create-user-thread : (id budget : ℕ) (stack : Bool) → Board → Call (Option (Unit {0}))
 create-user-thread id budget stack self =
-    cond stack (gives (insert-thread id (on-budget budget (tcb inactive)) self) (some tt))
+    cond stack (gives (insert-thread id (on-budget budget (tcb State·Inactive)) self) (some tt))
     (gives self none)
 
 -- `start`
 abbrev pub start-found : Option Thread → (id space cspace root : ℕ) → Context → Board → Call Bool
 start-found none id space cspace root entry self = gives self false
 start-found (some t) id space cspace root entry self =
-    cond (not (is inactive t)) (gives self false)
-    (gives (push-back id (write-thread id (λ u. set-state ready no-wait (set-entry space cspace root entry u)) self)) true)
+    cond (not (in-state State·Inactive t)) (gives self false)
+    (gives (push-back id (write-thread id (λ u. set-state State·Ready no-wait (set-entry space cspace root entry u)) self)) true)
 
 abbrev pub start : (id space cspace root : ℕ) → Context → Board → Call Bool
 start id space cspace root entry self = start-found (thread id self) id space cspace root entry self
 
 -- `block_current`
 abbrev pub block-current : Wait → Board → Board
-block-current w self = write-thread (self .current) (set-state blocked w) self
+block-current w self = write-thread (self .current) (set-state State·Blocked w) self
 
 -- `wake`
 abbrev pub wake-found : Option Thread → (id : ℕ) → Results → Board → Call Bool
 wake-found none id result self = gives self false
 wake-found (some t) id result self =
-    cond (is blocked t) (gives (push-back id (write-thread id (λ u. set-result result (set-state ready no-wait u)) self)) true)
+    cond (in-state State·Blocked t) (gives (push-back id (write-thread id (λ u. set-result result (set-state State·Ready no-wait u)) self)) true)
     (gives self false)
 
 unfoldable pub wake : (id : ℕ) → Results → Board → Call Bool
 wake id result self = wake-found (thread id self) id result self
 
--- `is_blocked_on`
+-- `is_blocked_on`: `t.state == State::Blocked(wait)`
 abbrev pub blocked-on : Option Wait → Wait → Bool
 blocked-on none w = false
 blocked-on (some v) w = eqb (v .kind) (w .kind) && eqb (v .number) (w .number)
 
 abbrev pub is-blocked-on-found : Option Thread → Wait → Bool
 is-blocked-on-found none w = false
-is-blocked-on-found (some t) w = blocked-on (wait-of t) w
+is-blocked-on-found (some t) w = blocked-on (blocked-wait t) w
 
 abbrev pub is-blocked-on : ℕ → Wait → Board → Bool
 is-blocked-on id w self = is-blocked-on-found (thread id self) w
 
--- `kill`
+-- `if self.exits.len() == EXIT_LOG { self.exits.pop_front(); } self.exits.push_back((id, why));`
 abbrev pub log : Exit → Board → Board
 log e self =
-    let l : List Exit = cond (eqb (length (self .exits)) 32) (drop 1 (self .exits)) (self .exits) in
+    let l : List Exit = cond (eqb (length (self .exits)) EXIT-LOG) (drop 1 (self .exits)) (self .exits) in
     record { registry = self .registry; threads = self .threads; queue = self .queue; current = self .current; switches = self .switches; exits = l ++ (e ∷ []) }
 
+-- `kill`
 abbrev pub kill-found : Option Thread → (id why : ℕ) → Board → Call (Option Wait)
 kill-found none id why self = gives self none
 kill-found (some t) id why self =
-    let killed : Board = write-thread id (set-state dead no-wait) self in
+    let killed : Board = write-thread id (set-state State·Dead no-wait) self in
     let left : Board = write-queue (retain id (killed .queue)) killed in
     let told : Board = log (record { thread = id; cause = why }) left in
-    gives (cond (not (eqb id (told .current))) (remove-thread id told) told) (wait-of t)
+    gives (cond (not (eqb id (told .current))) (remove-thread id told) told) (blocked-wait t)
 
 abbrev pub kill : (id why : ℕ) → Board → Call (Option Wait)
 kill id why self = kill-found (thread id self) id why self
 
 -- `matches!(t.state, State::Blocked(Wait::Sleep(at)) if at <= now_ticks)`
 abbrev pub is-due : (now-ticks : ℕ) → Thread → Bool
-is-due now-ticks t = cond (is blocked t) (cond (eqb (t .wait .kind) 5) (leb (t .wait .number) now-ticks) false) false
+is-due now-ticks t = cond (in-state State·Blocked t) (cond (eqb (t .wait .kind) Wait·Sleep) (leb (t .wait .number) now-ticks) false) false
 
--- `tick`: the charge, and what is left where that is refused
+-- the `if let` of `tick`: `charge_cpu(TICK_NS, now_ns)`, and of what is left where that says `false`
 abbrev pub charge-or-drain : Account → (now : ℕ) → Account
 charge-or-drain a now =
-    let charged : budget.Call Bool = budget.charge-cpu a 1_000_000 now in
+    let charged : budget.Call Bool = budget.charge-cpu a TICK-NS now in
     cond (charged .result) (charged .self)
     (budget.charge-cpu (charged .self) (charged .self .«cpu_left») now .self)
 
@@ -179,15 +262,17 @@ abbrev pub tick-budget : Option Thread → (now : ℕ) → Registry → Registry
 tick-budget none now r = r
 tick-budget (some t) now r = cond (eqb (t .budget .is) 0) r (tick-found (objects.budget-mut (t .budget .id) r) (t .budget .id) now r)
 
+-- `for id in due { self.wake(id, [0; 3]); }`
 abbrev pub wake-each : List ℕ → Board → Board
 wake-each [] self = self
-wake-each (id ∷ ids) self = wake-each ids (wake id (results 0 0 0) self .self)
+wake-each (id ∷ ids) self = wake-each ids (wake id (record { first = 0; second = 0; third = 0 }) self .self)
 
+-- `tick`
 abbrev pub tick : (now-ticks : ℕ) → Board → Board
 tick now-ticks self =
-    let now-ns : ℕ = now-ticks * 1_000_000 in
+    let now-ns : ℕ = now-ticks * TICK-NS in
     let counted : Board = write-thread (self .current) count-tick self in
-    let charged : Board = with-registry (tick-budget (thread (self .current) self) now-ns (self .registry)) counted in
+    let charged : Board = write-objects (tick-budget (thread (self .current) self) now-ns (self .registry)) counted in
     wake-each (pick (is-due now-ticks) (charged .threads)) charged
 
 -- `eligible`: the answer, and the registry as the refill leaves it
@@ -222,27 +307,25 @@ position now i (id ∷ q) self r =
     cond (t .eligible) (record { place = some i; registry = t .registry })
     (position now (suc i) q self (t .registry))
 
--- the id at a place of the queue
+-- the id that `self.ready.remove(i)` returns; `.expect("index in range")`: the place is there
 abbrev pub nth : ℕ → List ℕ → ℕ
-nth i [] = idle
+nth i [] = IDLE-THREAD
 nth zero (t ∷ q) = t
 nth (suc i) (t ∷ q) = nth i q
 
+-- `match position { Some(i) => .., None => IDLE_THREAD }`: the id, and the queue that is left
 abbrev pub next-of : Option ℕ → List ℕ → ℕ
-next-of none q = idle
+next-of none q = IDLE-THREAD
 next-of (some i) q = nth i q
 
 abbrev pub rest-of : Option ℕ → List ℕ → List ℕ
 rest-of none q = q
 rest-of (some i) q = remove-at i q
 
-abbrev pub is-running : Option Thread → Bool
-is-running none = false
-is-running (some t) = is running t
-
-abbrev pub is-dead : Option Thread → Bool
-is-dead none = false
-is-dead (some t) = is dead t
+-- `.is_some_and(|t| t.state == ..)`
+abbrev pub found-in : (state : ℕ) → Option Thread → Bool
+found-in state none = false
+found-in state (some t) = in-state state t
 
 -- `Switch`, in ids; none for the kernel's root
 pub record Switch : Type 0 where
@@ -250,27 +333,36 @@ pub record Switch : Type 0 where
   pub new : ℕ
   pub root : Option ℕ
 
+-- `next_tcb.root.unwrap_or_else(paging::kernel_root)`; `.expect("ready threads exist")`: the thread is there
 abbrev pub root-found : Option Thread → Option ℕ
 root-found none = none
-root-found (some t) = root-of t
+root-found (some t) = cond (eqb (t .spaces .is) 0) none (some (t .spaces .root))
 
 -- `plan`, from the thread that was picked on
 abbrev pub plan-next : (old next : ℕ) → Board → Call (Option Switch)
 plan-next old next self =
-    let runs : Board = write-thread next (set-state running no-wait) self in
+    let runs : Board = write-thread next (set-state State·Running no-wait) self in
     cond (eqb next old) (gives runs none)
     (let switched : Board = record { registry = runs .registry; threads = runs .threads; queue = runs .queue; current = next; switches = (runs .switches + 1) % 2 ^ 64; exits = runs .exits } in
-    gives (cond (is-dead (thread old switched)) (remove-thread old switched) switched) (some (record { old = old; new = next; root = root-found (thread next runs) })))
+    gives (cond (found-in State·Dead (thread old switched)) (remove-thread old switched) switched) (some (record { old = old; new = next; root = root-found (thread next runs) })))
 
+-- the first `if` of `plan`: the old thread, if it runs, goes to the queue's end
+abbrev pub put-back : (old : ℕ) → Board → Board
+put-back old self =
+    cond (not (eqb old IDLE-THREAD) && found-in State·Running (thread old self))
+    (push-back old (write-thread old (set-state State·Ready no-wait) self))
+    self
+
+-- `plan`
 abbrev pub plan : (now-ticks : ℕ) → Board → Call (Option Switch)
 plan now-ticks self =
-    let now-ns : ℕ = now-ticks * 1_000_000 in
+    let now-ns : ℕ = now-ticks * TICK-NS in
     let old : ℕ = self .current in
-    let back : Board = cond (not (eqb old idle) && is-running (thread old self)) (push-back old (write-thread old (set-state ready no-wait) self)) self in
+    let back : Board = put-back old self in
     let p : Position = position now-ns 0 (back .queue) back (back .registry) in
-    plan-next old (next-of (p .place) (back .queue)) (with-registry (p .registry) (write-queue (rest-of (p .place) (back .queue)) back))
+    plan-next old (next-of (p .place) (back .queue)) (write-objects (p .registry) (write-queue (rest-of (p .place) (back .queue)) back))
 
--- `self.exits.iter().find(|(t, _)| *t == id).map(|(_, e)| *e)`
+-- `exit_of`: `self.exits.iter().find(|(t, _)| *t == id).map(|(_, e)| *e)`
 abbrev pub find-exit : ℕ → List Exit → Option Exit
 find-exit id [] = none
 find-exit id (e ∷ l) = cond (eqb (e .thread) id) (some e) (find-exit id l)
@@ -279,7 +371,6 @@ abbrev pub cause-of : Option Exit → Option ℕ
 cause-of none = none
 cause-of (some e) = some (e .cause)
 
--- `exit_of`
 abbrev pub exit-of : ℕ → Board → Option ℕ
 exit-of id self = cause-of (find-exit id (self .exits))
 
@@ -287,9 +378,9 @@ exit-of id self = cause-of (find-exit id (self .exits))
 abbrev pub new : (cpu memory : ℕ) → Board
 new cpu memory = record {
   registry = objects.new cpu memory;
-  threads = put idle (tcb ready) (put 0 (tcb running) []);
+  threads = put IDLE-THREAD (tcb State·Ready) (put BOOT-THREAD (tcb State·Running) []);
   queue = [];
-  current = 0;
+  current = BOOT-THREAD;
   switches = 0;
   exits = [];
 }

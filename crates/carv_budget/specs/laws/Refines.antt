@@ -6,7 +6,7 @@ use lib.Dec.{leb, ltb}
 use borrow.Author.Tests.{leb-true, leb-false, le-ltb, lt-ltb}
 use Rattle.carv_budget.specs.declared.Account.{Account}
 use Rattle.carv_budget.specs.declared.Answer.the-variants.{Done, Renewed, NotDue, CpuBudgetExceedsPeriod, CpuLimitReached, CpuLimitExceeded, MemoryLimitExceeded}
-use Rattle.carv_budget.specs.Account.{period, sound, with-cpu, due, renew, spent, carved, returnable, blank, fresh, free, spend, charge, credit, reserve, return, outcome, carve-outcome, open-account, refill, charge-cpu, charge-memory, release-memory, carve-out, release-child}
+use Rattle.carv_budget.specs.Account.{sound, with-cpu, due, renew, spent, carved, returnable, blank, fresh, free, spend, charge, credit, reserve, return, outcome, carve-outcome, open-account, refill, charge-cpu, charge-memory, release-memory, carve-out, release-child}
 use Rattle.carv_budget.specs.Rust as rust
 use Rattle.carv_budget.specs.Replies.{error, opening-of, refill-of, charge-of, outcome-of, carve-out-of}
 use Rattle.carv_budget.specs.Rust.{BudgetError, cpu-budget-exceeds-period, cpu-limit-exceeded, memory-limit-exceeded, memory-limit-reached, memory-underflow, reservation-underflow, ok, err, gives}
@@ -30,7 +30,7 @@ open-by true x = refl
 open-by false x = refl
 
 refill-by : (b c : Bool) (a : Account) (start left : ℕ)
-    → cond (not b) (gives a false) (cond (not c) (gives a false) (gives (with-cpu a start left (a .«cpu_reserved»)) true))
+    → cond (not b) (gives a false) (cond (not c) (gives a false) (gives (rust.set-cpu-remaining left (rust.set-period-start start a)) true))
     ≡ gives (with-cpu a (cond (b && c) start (a .«period_start»)) (cond (b && c) left (a .«cpu_left»)) (a .«cpu_reserved»)) (b && c)
 refill-by true true a start left = refl
 refill-by true false a start left = refl
@@ -58,7 +58,7 @@ carve-by false c a x y = refl
 -- `refill` leaves the renewed account and answers whether a renewal was due
 pub refill-renews : (a : Account) (t : ℕ) → rust.refill a t ≡ gives (renew a t) (due a t)
 unfolding rust.refill due renew
-refill-renews a t = rw (over (a .«period_start») t, over period (t - a .«period_start»)) (refill-by (leb (a .«period_start») t) (leb period (t - a .«period_start»)) a _ _)
+refill-renews a t = rw (over (a .«period_start») t, over rust.cpu-period-ns (t - a .«period_start»)) (refill-by (leb (a .«period_start») t) (leb rust.cpu-period-ns (t - a .«period_start»)) a _ _)
 
 -- the two methods that go on from a renewed account
 spent-rust : (a : Account) (ns : ℕ) → spent a ns ≡ charge-of (rust.charge-cpu-refilled a ns)
@@ -71,8 +71,8 @@ carved-rust a ns bytes = rw (over ns (a .«cpu_left»), over bytes (free a)) (ca
 
 -- The theorems: an opening, and each call that passes question 1, answers and leaves what the Rust's method does.
 
-pub open-account-rust : (cpu memory time : ℕ) → open-account cpu memory time ≡ opening-of (rust.new cpu period memory time)
-open-account-rust cpu memory time = rw (over cpu period) (open-by (leb cpu period) _)
+pub open-account-rust : (cpu memory time : ℕ) → open-account cpu memory time ≡ opening-of (rust.new cpu rust.cpu-period-ns memory time)
+open-account-rust cpu memory time = rw (over cpu rust.cpu-period-ns) (open-by (leb cpu rust.cpu-period-ns) _)
 
 pub refill-rust : (a : Account) (time : ℕ) → sound a ≡ true → refill a time ≡ refill-of (rust.refill a time)
 refill-rust a time p = rw (p, refill-renews a time) (renewal-by (due a time) (renew a time))

@@ -1,7 +1,7 @@
 -- The calls of document 01 answer and leave what the Rust's methods do, on every sound registry, wherever the answer is no refusal that the port adds.
 -- Assumes nothing.
 use mathlib.Core.Path.{_≡_, refl, sym, ap, _∙_}
-use mathlib.Core.Bool.{Bool, true, false, cond, not, _||_}
+use mathlib.Core.Bool.{Bool, true, false, cond, not, _&&_, _||_}
 use mathlib.Core.Option.{Option, none, some}
 use mathlib.Core.List.{List, [], _∷_, _++_}
 use Prim.Native.Nat.{ℕ, suc, _+_, _-_, _≤_, _<_}
@@ -18,7 +18,7 @@ use Rattle.carv_budget.specs.laws.Refines.{refill-renews, charge-memory-by, rel
 use Rattle.carv_objects_spec.specs.declared.Entry.{Entry}
 use Rattle.carv_objects_spec.specs.Reply.{refuse, accept, Value, id, pays, of-account, charge}
 use Rattle.carv_objects_spec.specs.Registry as r01
-use Rattle.carv_objects_spec.specs.Registry.{Registry, RegistryReply, or-missing, entry, is-budget, account-of, payer-of, on-account, on-charge, object, drop, add, plain, carved, bytes-of, listed, needs-backing, has-place, has-next}
+use Rattle.carv_objects_spec.specs.Registry.{Registry, RegistryReply, or-missing, entry, is-budget, account-of, payer-of, on-account, object, drop, add, plain, carved, bytes-of, listed, needs-backing, has-place, has-next}
 use Rattle.carv_objects_spec.specs.Rust as rust
 use Rattle.carv_objects_spec.specs.Replies.{reply-of, an-id, nothing, a-renewal, cpu-reply-of, reading-of}
 use Rattle.carv_objects_spec.specs.Refused.{added, added-to-uncharge}
@@ -103,18 +103,18 @@ abbrev with-rows : Registry → List (Row Entry) → Registry
 with-rows r m = record { next = r .next; rows = m }
 
 write-write : (p : ℕ) (x y : Account) (r : Registry) → write p y (write p x r) ≡ write p y r
-write-write p x y r = ap (with-rows r) (alter-alter (r .rows) p (on-account (λ _. x)) (on-account (λ _. y)))
+write-write p x y r = ap (with-rows r) (alter-alter (r .rows) p (rust.set-budget x) (rust.set-budget y))
 
 module _ (p : ℕ) (r : Registry) (live : is-budget r p ≡ true) where
   -- a step of the account is what is written
   step-is : (f : Account → Account) → r01.budget p f r ≡ write p (f (account-of r p)) r
-  step-is f = ap (with-rows r) (alter-known (r .rows) p (on-account f) (on-account (λ _. f (account-of r p))) (entry r p) (there (at (r .rows) p) live) refl)
+  step-is f = ap (with-rows r) (alter-known (r .rows) p (on-account f) (rust.set-budget (f (account-of r p))) (entry r p) (there (at (r .rows) p) live) refl)
 
   write-same : write p (account-of r p) r ≡ r
-  write-same = ap (with-rows r) (alter-known (r .rows) p (on-account (λ _. account-of r p)) (λ e. e) (entry r p) (there (at (r .rows) p) live) refl ∙ alter-id (r .rows) p)
+  write-same = ap (with-rows r) (alter-known (r .rows) p (rust.set-budget (account-of r p)) (λ e. e) (entry r p) (there (at (r .rows) p) live) refl ∙ alter-id (r .rows) p)
 
   budget-written : (x : Account) → rust.budget-mut p (write p x r) ≡ some x
-  budget-written x = rw (at-alter (r .rows) p (on-account (λ _. x)) (entry r p) (there (at (r .rows) p) live), live)
+  budget-written x = rw (at-alter (r .rows) p (rust.set-budget x) (entry r p) (there (at (r .rows) p) live), live)
 
   credit-written : (x : Account) (n : ℕ) → rust.credit p n (write p x r) ≡ write p (budget.release-memory x n .self) r
   unfolding rust.credit
@@ -250,8 +250,12 @@ charge-more-rust i bytes r s = look (at (r .rows) i) (λ q. rw q) λ q.
     rw q (paid nothing 13 (payer-of r i) bytes r _ _ l λ _.
     ap (λ (t : Registry). accept {A = Value} none (object i (λ c. c + bytes) t)) (step-is (payer-of r i) r l (λ a. account.charge a bytes)))
 
--- an entry's charge is seen in no account
-charge-aside : (m : List (Row Entry)) (i p : ℕ) (f : ℕ → ℕ) → rust.budget-of (at (alter i (on-charge f) m) p) ≡ rust.budget-of (at m p)
+-- an entry's charge, as the Rust writes it
+abbrev recharge : (ℕ → ℕ) → Entry → Entry
+recharge f e = rust.set-charged (f (e .charge)) e
+
+-- it is seen in no account
+charge-aside : (m : List (Row Entry)) (i p : ℕ) (f : ℕ → ℕ) → rust.budget-of (at (alter i (recharge f) m) p) ≡ rust.budget-of (at m p)
 charge-aside [] i p f = refl
 charge-aside (r ∷ m) i p f = test (eqb (r .id) i)
     (λ e. rw (e, ← eqb-true (r .id) i e) (test (eqb (r .id) p) (λ d. rw d) (λ d. rw d)))
@@ -259,10 +263,10 @@ charge-aside (r ∷ m) i p f = test (eqb (r .id) i)
 
 -- the Rust lowers the entry and credits the payer, 01 the other way round
 credit-aside : (p n i : ℕ) (f : ℕ → ℕ) (r : Registry) → is-budget r p ≡ true → n ≤ account-of r p .«memory_used»
-    → object i f (r01.budget p (λ a. account.credit a n) r) ≡ rust.credit p n (object i f r)
+    → object i f (r01.budget p (λ a. account.credit a n) r) ≡ rust.credit p n (rust.write-charged i f r)
 unfolding rust.credit
 credit-aside p n i f r l h =
-    rw (charge-aside (r .rows) i p f, budget-mut-is p r, l, released (account-of r p) n h, alter-swap (r .rows) p i (on-account (λ _. account.credit (account-of r p) n)) (on-charge f) (λ _. refl))
+    rw (charge-aside (r .rows) i p f, budget-mut-is p r, l, released (account-of r p) n h, alter-swap (r .rows) p i (rust.set-budget (account.credit (account-of r p) n)) (recharge f) (λ _. refl))
     (ap (object i f) (step-is p r l (λ a. account.credit a n)))
 
 pub uncharge-rust : (i bytes : ℕ) (r : Registry) → Sound r → added-to-uncharge (r01.uncharge i bytes r .number) ≡ false
@@ -325,13 +329,18 @@ module _ (r : Registry) (s : Sound r) (i : ℕ) (q : at (r .rows) i ≡ some (en
       → r01.budget payer (λ a. account.credit (account.return a (account-of r i)) (entry r i .charge)) left ≡ rust.credit payer (entry r i .charge) left
   plain-credited b = rw (s .each i (entry r i) q .plain b) (credited account.blank ∙ rw (return-blank (account-of r payer), kept))
 
+-- `pays_for_anything` is 01's
+pays-is : (i : ℕ) (m : List (Row Entry)) → r01.pays-in m i ≡ rust.any (λ e. not (eqb (e .id) i) && eqb (e .it .payer) i) m
+pays-is i [] = refl
+pays-is i (e ∷ m) = ap (λ (b : Bool). (not (eqb (e .id) i) && eqb (e .it .payer) i) || b) (pays-is i m)
+
 pub remove-rust : (i : ℕ) (r : Registry) → Sound r → r01.remove i r ≡ reply-of nothing 15 (rust.remove i r)
 remove-rust i r s = look (at (r .rows) i)
     (λ q. let root : or-missing (at (r .rows) 1) .kind ≡ 6 = s .root in
     let d : eqb i 1 ≡ false = ne-eqb i 1 (λ w. let z : _≡_ {A = ℕ} 0 6 = cc in omega arith) in rw (q, d))
     λ q. rw q (test (eqb i 1) (λ d. rw d) (λ d. rw d
     (test (is-budget r i)
-    (λ b. rw b (test (r01.pays-for r i) (λ w. rw w) (λ w. rw w (returned r s i q d))))
+    (λ b. rw (b, pays-is i (r .rows)) (test (rust.pays-for-anything i r) (λ w. rw w) (λ w. rw w (returned r s i q d))))
     (λ b. rw b (ap (λ (x : Registry). accept {A = Value} none x) (plain-credited r s i q d b))))))
 
 pub refill-rust : (i time : ℕ) (r : Registry) → r01.refill i time r ≡ reply-of a-renewal 13 (rust.refill i time r)
@@ -347,7 +356,7 @@ charge-cpu-rust i ns time r = test (is-budget r i)
     (λ l. rw (budget-mut-is i r, l))
 
 pub pays-for-anything-rust : (i : ℕ) (r : Registry) → r01.pays-for-anything i r ≡ accept (some (pays (rust.pays-for-anything i r))) r
-pays-for-anything-rust i r = refl
+pays-for-anything-rust i r = rw (pays-is i (r .rows))
 
 pub read-account-rust : (i : ℕ) (r : Registry) → r01.read-account i r ≡ reading-of of-account (rust.budget-mut i r) r
 read-account-rust i r = rw (budget-mut-is i r) (test (is-budget r i) (λ l. rw l) (λ l. rw l))

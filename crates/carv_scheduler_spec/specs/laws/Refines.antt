@@ -16,6 +16,7 @@ use Rattle.carv_budget.specs.Account as account
 use Rattle.carv_budget.specs.laws.Account.{first, renew-twice}
 use Rattle.carv_budget.specs.laws.Refines.{refill-renews, charge-cpu-by}
 use Rattle.carv_objects_spec.specs.declared.Entry.{Entry}
+use Rattle.carv_objects_spec.specs.Reply as reply
 use Rattle.carv_objects_spec.specs.Reply.{refuse, accept}
 use Rattle.carv_objects_spec.specs.Registry as registry
 use Rattle.carv_objects_spec.specs.Registry.{Registry, or-missing, entry, is-budget, account-of, on-account}
@@ -28,11 +29,11 @@ use Rattle.carv_scheduler_spec.specs.declared.Results.{Results}
 use Rattle.carv_scheduler_spec.specs.declared.Thread.{Thread}
 use Rattle.carv_scheduler_spec.specs.declared.Exit.{Exit}
 use Rattle.carv_scheduler_spec.specs.Scheduler as s01
-use Rattle.carv_scheduler_spec.specs.Scheduler.{Board, BoardReply, Value, is-blocked, record-of, word, exit-cause, Choice, idle, tick-ns, tick-fits, inactive, running, blocked, dead, is, wait, no-wait, wait-listed, cause-listed, is-due, results, become, ticked, with-registry, thread, has, found, or-fresh, without, renew-for, has-time, charge-tick, put-back, choose, switch-to, switch-value, root-of, exit-in, on-registry}
+use Rattle.carv_scheduler_spec.specs.Scheduler.{Board, BoardReply, Value, is-blocked, record-of, word, exit-cause, Choice, idle, tick-ns, tick-fits, inactive, running, blocked, dead, is, no-wait, wait-listed, cause-listed, is-due, results, become, ticked, thread, has, found, or-fresh, without, renew-for, has-time, charge-tick, put-back, choose, switch-to, switch-value, root-of, exit-in, lift-value, on-registry}
 use Rattle.carv_scheduler_spec.specs.laws.SoundFacts.{Sound}
 use Rattle.carv_scheduler_spec.specs.laws.Switching.{put-back-current}
 use Rattle.carv_scheduler_spec.specs.Rust as rust
-use Rattle.carv_scheduler_spec.specs.Replies.{creation-reply-of, said-reply-of, kill-reply-of, plan-reply-of, reading-of}
+use Rattle.carv_scheduler_spec.specs.Replies.{there, creation-reply-of, said-reply-of, kill-reply-of, plan-reply-of, reading-of, objects-value, objects-reply-of}
 use Rattle.carv_objects_spec.specs.Refused.{added, added-to-block}
 use Rattle.carv_scheduler_spec.specs.Rust.{Call, gives}
 
@@ -58,6 +59,11 @@ skip n false b a h p = cc
 look : {A C : Type 0} (o : Option A) → (o ≡ none → C) → ((a : A) → o ≡ some a → C) → C
 look none f g = f refl
 look (some a) f g = g a refl
+
+-- the Rust's and 01's "there is a thread"
+there-is : (o : Option Thread) → there o ≡ found o
+there-is none = refl
+there-is (some t) = refl
 
 -- Tables.
 
@@ -85,17 +91,17 @@ create-user-thread-rust i payer stack b =
     skip 6 (ltb (length (b .threads)) 128) b refl λ _ _. test stack (λ s. rw s) (λ s. rw s)
 
 pub start-rust : (i space cspace root : ℕ) (context : Context) (b : Board)
-    → s01.start i space cspace root context b ≡ said-reply-of (has (b .threads) i) (rust.start i space cspace root context b)
+    → s01.start i space cspace root context b ≡ said-reply-of (there (rust.thread i b)) (rust.start i space cspace root context b)
 start-rust i space cspace root context b = look (at (b .threads) i) (λ q. rw q)
     (λ t q. rw q (test (is inactive t) (λ p. rw p) (λ p. rw p)))
 
-pub wake-rust : (i : ℕ) (r : Results) (b : Board) → s01.wake i r b ≡ said-reply-of (has (b .threads) i) (rust.wake i r b)
+pub wake-rust : (i : ℕ) (r : Results) (b : Board) → s01.wake i r b ≡ said-reply-of (there (rust.thread i b)) (rust.wake i r b)
 unfolding rust.wake
 wake-rust i r b = look (at (b .threads) i) (λ q. rw q)
     (λ t q. rw q (test (is blocked t) (λ p. rw p) (λ p. rw p)))
 
 pub block-current-rust : (kind number : ℕ) (b : Board) → added-to-block (s01.block-current kind number b .number) ≡ false
-    → s01.block-current kind number b ≡ accept none (rust.block-current (wait kind number) b)
+    → s01.block-current kind number b ≡ accept none (rust.block-current (rust.wait kind number) b)
 block-current-rust kind number b = test (wait-listed kind)
     (λ l. rw l (test (is running (thread (b .threads) (b .current)))
     (λ r. rw r (test (eqb (b .current) idle) (λ e. rw e (λ p. cc)) (λ e. rw e (λ p. refl))))
@@ -103,7 +109,7 @@ block-current-rust kind number b = test (wait-listed kind)
     (λ l. rw l (λ p. cc))
 
 pub is-blocked-on-rust : (i kind number : ℕ) (b : Board) → added (s01.is-blocked-on i kind number b .number) ≡ false
-    → s01.is-blocked-on i kind number b ≡ accept (some (is-blocked (rust.is-blocked-on i (wait kind number) b))) b
+    → s01.is-blocked-on i kind number b ≡ accept (some (is-blocked (rust.is-blocked-on i (rust.wait kind number) b))) b
 is-blocked-on-rust i kind number b = skip 4 (wait-listed kind) b refl λ _ _.
     look (at (b .threads) i) (λ q. rw q) (λ t q. rw q (test (is blocked t) (λ p. rw p) (λ p. rw p)))
 
@@ -112,21 +118,21 @@ without-rust i [] = refl
 without-rust i (j ∷ q) = test (eqb j i) (λ e. rw e (without-rust i q)) (λ e. rw e (ap (_∷_ j) (without-rust i q)))
 
 pub kill-rust : (i cause : ℕ) (b : Board) → added (s01.kill i cause b .number) ≡ false
-    → s01.kill i cause b ≡ kill-reply-of (has (b .threads) i) (rust.kill i cause b)
+    → s01.kill i cause b ≡ kill-reply-of (there (rust.thread i b)) (rust.kill i cause b)
 kill-rust i cause b = skip 4 (cause-listed cause) b refl λ _. skip 5 (not (eqb i idle)) b refl λ _ _.
     look (at (b .threads) i) (λ q. rw q)
     (λ t q. rw (q, without-rust i (b .queue)) (test (eqb i (b .current)) (λ e. rw e) (λ e. rw (e, erase-alter (b .threads) i))))
 
 -- where the thread is not there `kill` answers `None` and leaves the board
-pub kill-missing : (i cause : ℕ) (b : Board) → has (b .threads) i ≡ false → rust.kill i cause b ≡ gives b none
+pub kill-missing : (i cause : ℕ) (b : Board) → there (rust.thread i b) ≡ false → rust.kill i cause b ≡ gives b none
 kill-missing i cause b h = look (at (b .threads) i) (λ q. rw q) (λ t q. let z : true ≡ false = rw q at h in cc)
 
 -- Budgets. `write-budget` is what the Rust leaves behind `budget_mut`.
 
 -- a budget is there
-there : (o : Option Entry) → eqb (or-missing o .kind) 6 ≡ true → o ≡ some (or-missing o)
-there none p = cc
-there (some e) p = refl
+live-there : (o : Option Entry) → eqb (or-missing o .kind) 6 ≡ true → o ≡ some (or-missing o)
+live-there none p = cc
+live-there (some e) p = refl
 
 budget-of-is : (o : Option Entry) → objects.budget-of o ≡ cond (eqb (or-missing o .kind) 6) (some (or-missing o .account)) none
 budget-of-is none = refl
@@ -139,11 +145,11 @@ module _ (p : ℕ) (r : Registry) (live : is-budget r p ≡ true) (f : Account �
   -- a step of the account is what is written
   step-is : registry.budget p f r ≡ objects.write-budget p (f (account-of r p)) r
   step-is = ap (λ (m : List (Row Entry)). record { next = r .next; rows = m })
-      (alter-known (r .rows) p (on-account f) (on-account (λ _. f (account-of r p))) (entry r p) (there (at (r .rows) p) live) refl)
+      (alter-known (r .rows) p (on-account f) (objects.set-budget (f (account-of r p))) (entry r p) (live-there (at (r .rows) p) live) refl)
 
   -- the entry after the step
   stepped : entry (registry.budget p f r) p ≡ on-account f (entry r p)
-  stepped = ap or-missing (at-alter (r .rows) p (on-account f) (entry r p) (there (at (r .rows) p) live))
+  stepped = ap or-missing (at-alter (r .rows) p (on-account f) (entry r p) (live-there (at (r .rows) p) live))
 
   still-budget : is-budget (registry.budget p f r) p ≡ true
   still-budget = ap (λ (e : Entry). eqb (e .kind) 6) stepped ∙ live
@@ -175,7 +181,7 @@ wakes : (ids : List ℕ) (b : Board) → s01.wake-all ids b ≡ rust.wake-each i
 wakes [] b = refl
 wakes (i ∷ ids) b =
     let zeros : Results = results 0 0 0 in
-    ap (s01.wake-all ids) (ap (λ (a : BoardReply). a .after) (wake-rust i zeros b) ∙ said-now (has (b .threads) i) (rust.wake i zeros b)) ∙ wakes ids (rust.wake i zeros b .self)
+    ap (s01.wake-all ids) (ap (λ (a : BoardReply). a .after) (wake-rust i zeros b) ∙ said-now (there (rust.thread i b)) (rust.wake i zeros b)) ∙ wakes ids (rust.wake i zeros b .self)
 
 -- the sleepers that are due
 due-one : (n : ℕ) (t : Thread) → rust.is-due n t ≡ is-due n t
@@ -244,44 +250,43 @@ chosen now (j ∷ q) b r =
     (λ e. rw e)
     (λ e. rw (e, further now 0 q b r′, chosen now q b r′) (passed (rust.position now 0 q b r′ .place) j q (rust.position now 0 q b r′ .registry))))
 
-running-is : (o : Option Thread) → rust.is-running o ≡ is running (or-fresh o)
+running-is : (o : Option Thread) → rust.found-in rust.State·Running o ≡ is running (or-fresh o)
 running-is none = refl
 running-is (some t) = refl
 
-dead-is : (o : Option Thread) → rust.is-dead o ≡ is dead (or-fresh o)
+dead-is : (o : Option Thread) → rust.found-in rust.State·Dead o ≡ is dead (or-fresh o)
 dead-is none = refl
 dead-is (some t) = refl
 
+-- what the Rust writes to the chosen thread
+abbrev to-running : Thread → Thread
+to-running = rust.set-state rust.State·Running rust.no-wait
+
 -- the root of a thread that comes to run
-root-runs : (m : List (Row Thread)) (i : ℕ) → rust.root-found (at (alter i (become running no-wait) m) i) ≡ root-of (thread m i)
+root-runs : (m : List (Row Thread)) (i : ℕ) → rust.root-found (at (alter i to-running m) i) ≡ root-of (thread m i)
 root-runs [] i = refl
 root-runs (r ∷ m) i = test (eqb (r .id) i) (λ e. rw (e, eq-eqb i i refl)) (λ e. rw (e, e) (root-runs m i))
 
 -- from the chosen thread on
 switched : (next : ℕ) (rest : List ℕ) (r : Registry) (b : Board)
     → accept (some (switch-value (b .current) (record { next = next; rest = rest; registry = r }) b)) (switch-to (record { next = next; rest = rest; registry = r }) b)
-    ≡ plan-reply-of (rust.plan-next (b .current) next (with-registry r (rust.write-queue rest b)))
+    ≡ plan-reply-of (rust.plan-next (b .current) next (rust.write-objects r (rust.write-queue rest b)))
 switched next rest r b = test (eqb next (b .current))
     (λ e. rw (e, eqb-true next (b .current) e))
-    (λ e. rw (e, root-runs (b .threads) next, at-alter-other (b .threads) next (b .current) (become running no-wait) (eqb-false next (b .current) e), dead-is (at (b .threads) (b .current)))
+    (λ e. rw (e, root-runs (b .threads) next, at-alter-other (b .threads) next (b .current) to-running (eqb-false next (b .current) e), dead-is (at (b .threads) (b .current)))
     (test (is dead (thread (b .threads) (b .current))) (λ d. rw d) (λ d. rw d)))
 
--- the Rust's board with its current thread put back, and its planning from there
-abbrev pub back-of : Board → Board
-back-of b =
-    cond (not (eqb (b .current) idle) && rust.is-running (at (b .threads) (b .current)))
-    (rust.push-back (b .current) (rust.write-thread (b .current) (become s01.ready no-wait) b)) b
-
+-- the Rust's planning from the board with its current thread put back
 planned : (now old : ℕ) → Board → Call (Option rust.Switch)
 planned now old back =
     let p : rust.Position = rust.position now 0 (back .queue) back (back .registry) in
-    rust.plan-next old (rust.next-of (p .place) (back .queue)) (with-registry (p .registry) (rust.write-queue (rust.rest-of (p .place) (back .queue)) back))
+    rust.plan-next old (rust.next-of (p .place) (back .queue)) (rust.write-objects (p .registry) (rust.write-queue (rust.rest-of (p .place) (back .queue)) back))
 
-plan-is : (n : ℕ) (b : Board) → planned (n * tick-ns) (b .current) (back-of b) ≡ rust.plan n b
+plan-is : (n : ℕ) (b : Board) → planned (n * rust.TICK-NS) (b .current) (rust.put-back (b .current) b) ≡ rust.plan n b
 unfolding planned
 plan-is n b = refl
 
-back-is : (b : Board) → put-back b ≡ back-of b
+back-is : (b : Board) → put-back b ≡ rust.put-back (b .current) b
 back-is b = rw (running-is (at (b .threads) (b .current)))
 
 -- what 01 chooses from a board
@@ -323,10 +328,14 @@ exit-of-rust i b = ap (λ (x : Option ℕ). accept {A = Value} (some (exit-cause
 pub opening-rust : (cpu memory : ℕ) → cpu ≤ account.period → s01.opening cpu memory ≡ rust.new cpu memory
 opening-rust cpu memory h = rw (objects-refines.opening-rust cpu memory h)
 
--- A call of the registry answers and leaves on the board what its Rust does, by the theorems of carv_objects_spec/specs/Refines.antt.
+-- A call of the registry answers and leaves on the board what its Rust does, by the theorems of carv_objects_spec/specs/laws/Refines.antt.
 
-pub on-registry-rust : (a c : registry.RegistryReply) (b : Board) → a ≡ c → on-registry a b ≡ on-registry c b
-on-registry-rust a c b q = ap (λ (x : registry.RegistryReply). on-registry x b) q
+lift-is : (v : Option reply.Value) → lift-value v ≡ objects-value v
+lift-is none = refl
+lift-is (some v) = refl
+
+pub on-registry-rust : (a c : registry.RegistryReply) (b : Board) → a ≡ c → on-registry a b ≡ objects-reply-of c b
+on-registry-rust a c b q = rw (q, lift-is (c .value))
 
 -- The Rust's `expect`s. On a sound board none of them fails, and no time leaves 64 bits: the current thread is there (`current_tcb`), and at a planning
 -- so are the found place, the thread that comes to run and the one that is left.
@@ -373,16 +382,16 @@ has-back b i = test (not (eqb (b .current) idle) && is running (thread (b .threa
 -- of a planning at a time, from the board with the current thread put back
 pub record Expected (now old : ℕ) (back : Board) : Type 0 where
   pub place : Within (rust.position now 0 (back .queue) back (back .registry) .place) (length (back .queue))
-  pub next : has (back .threads) (rust.next-of (rust.position now 0 (back .queue) back (back .registry) .place) (back .queue)) ≡ true
-  pub left : (i : ℕ) → has (alter i (become running no-wait) (back .threads)) old ≡ true
+  pub next : there (rust.thread (rust.next-of (rust.position now 0 (back .queue) back (back .registry) .place) (back .queue)) back) ≡ true
+  pub left : (i : ℕ) → there (rust.thread old (rust.write-thread i (rust.set-state rust.State·Running rust.no-wait) back)) ≡ true
 
-pub plan-expects : (n : ℕ) (b : Board) → Sound b → Expected (n * tick-ns) (b .current) (back-of b)
+pub plan-expects : (n : ℕ) (b : Board) → Sound b → Expected (n * rust.TICK-NS) (b .current) (rust.put-back (b .current) b)
 unfolding picked
 plan-expects n b s = subst (Expected (n * tick-ns) (b .current)) (back-is b) (
     let back : Board = put-back b in
     record {
       place = placed (n * tick-ns) (back .queue) back (back .registry);
-      next = ap (λ (c : Choice). has (back .threads) (c .next)) (sym (chosen (n * tick-ns) (back .queue) back (back .registry)))
+      next = there-is (at (back .threads) _) ∙ ap (λ (c : Choice). has (back .threads) (c .next)) (sym (chosen (n * tick-ns) (back .queue) back (back .registry)))
           ∙ chosen-there (n * tick-ns) (back .threads) (back .queue) (back .registry) (has-back b idle ∙ s .idle-here);
-      left = λ i. has-alter (back .threads) i (b .current) (become running no-wait) ∙ (has-back b (b .current) ∙ s .current-here);
+      left = λ i. there-is (at (alter i to-running (back .threads)) (b .current)) ∙ has-alter (back .threads) i (b .current) to-running ∙ (has-back b (b .current) ∙ s .current-here);
     })
