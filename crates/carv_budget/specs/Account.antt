@@ -1,4 +1,5 @@
 -- Document 01's budget account: its rules, and its calls with the questions that they ask. Assumes nothing.
+use mathlib.Core.Path.{_≡_}
 use mathlib.Core.Bool.{Bool, cond, _&&_}
 use Prim.Native.Nat.{ℕ, _+_, _-_, _%_}
 use lib.Dec.{leb, eqb}
@@ -166,3 +167,7 @@ release-child a child =
     (outcome ReservationUnderflow a))
     (outcome Unsound a))
     (outcome Unsound a)
+
+-- "renewing and charging one account also exist on an account lent for change": at the end it holds the account of the by-value call, whose answer is returned
+abbrev pub Lent : Outcome → (exit : Account) → Answer → Type 0
+Lent r exit answer = (exit ≡ r .account) × (answer ≡ r .answer)

@@ -1,6 +1,7 @@
--- What is proved of the definitions. Refines: the calls are the Rust's methods. Edges: document 01's marked cases. Panics: the Rust doesn't
--- panic. Account: the laws that the crates above cite.
+-- What is proved of the definitions. Refines, Demand2: the calls, and lists of them, are the Rust's. Panics: the Rust doesn't. Edges: document 01's marked cases.
+-- Account: the laws that the crates above cite.
 pub mod Account
 pub mod Refines
+pub mod Demand2
 pub mod Edges
 pub mod Panics

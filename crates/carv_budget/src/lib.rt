@@ -5,7 +5,7 @@ ghost use mathlib.Core.Path.{_≡_};
 ghost use mathlib.Core.Bool.{true};
 ghost use Prim.Native.Nat.{_+_, _≤_};
 ghost use lib.Dec.{leb};
-ghost use Rattle.carv_budget.specs.Account.{number, sound, fresh, due, renew, free, spent, reserve, returnable, open-account, refill, charge-cpu, charge-memory, release-memory, carve-out, release-child};
+ghost use Rattle.carv_budget.specs.Account.{number, sound, fresh, due, renew, free, spent, reserve, returnable, open-account, refill, charge-cpu, charge-memory, release-memory, carve-out, release-child, Lent};
 
 // CPU figures are in nanoseconds, memory figures in bytes. The line is the last four.
 pub struct Account {
@@ -371,18 +371,18 @@ impl Account {
 
 // Renewing an account that is lent for change.
 pub fn refill_lent(account: &mut Account, time: u64) -> Answer
-    ensures { λ r. ⌜ (now (account .exit) ≡ refill (now (account .entry)) time .account) × (r ≡ refill (now (account .entry)) time .answer) ⌝ }
+    ensures { λ r. ⌜ Lent (refill (now (account .entry)) time) (now (account .exit)) r ⌝ }
 {
-    let done = (*account).refill(time);
-    *account = done.account;
-    done.answer
+    let renewed = (*account).refill(time);
+    *account = renewed.account;
+    renewed.answer
 }
 
 // Charging CPU time to an account that is lent for change.
 pub fn charge_cpu_lent(account: &mut Account, ns: u64, time: u64) -> Answer
-    ensures { λ r. ⌜ (now (account .exit) ≡ charge-cpu (now (account .entry)) ns time .account) × (r ≡ charge-cpu (now (account .entry)) ns time .answer) ⌝ }
+    ensures { λ r. ⌜ Lent (charge-cpu (now (account .entry)) ns time) (now (account .exit)) r ⌝ }
 {
-    let done = (*account).charge_cpu(ns, time);
-    *account = done.account;
-    done.answer
+    let charged = (*account).charge_cpu(ns, time);
+    *account = charged.account;
+    charged.answer
 }

@@ -1,6 +1,6 @@
 -- The root of the crate's definitions. What a reader must believe: Scheduler, document 01's thread calls; Sound, its soundness of a board; Rust, the Rust's
--- methods; Replies, the Rust's results in 01's words; Book, 01's book; Runs, lists of calls; Demand1 to Demand3, what the demands are said with. laws/ is what
--- is proved of these.
+-- methods; Replies, the Rust's results in 01's words; Panics, where the Rust could panic; Book, 01's book; Runs, lists of calls; Demand1 to Demand3, what the demands
+-- are said with. laws/ is what is proved of these.
 pub mod Scheduler
 pub mod Sound
 pub mod Rust

@@ -9,6 +9,7 @@ pub mod Switching
 pub mod Kept
 pub mod Questions
 pub mod Refines
+pub mod LentExits
 pub mod Following
 pub mod History
 pub mod Demand1

@@ -318,7 +318,7 @@ read-current-rust b = refl
 pub read-switches-rust : (b : Board) → s01.read-switches b ≡ accept (some (word (b .switches))) b
 read-switches-rust b = refl
 
-exit-same : (i : ℕ) (l : List Exit) → exit-in i l ≡ rust.cause-of (rust.find-exit i l)
+pub exit-same : (i : ℕ) (l : List Exit) → exit-in i l ≡ rust.cause-of (rust.find-exit i l)
 exit-same i [] = refl
 exit-same i (e ∷ l) = test (eqb (e .thread) i) (λ a. rw a) (λ a. rw a (exit-same i l))
 
