@@ -5,11 +5,13 @@ use mathlib.Core.Path.{_≡_}
 use mathlib.Core.Bool.{Bool, true, false, cond, _&&_}
 use mathlib.Core.Option.{none, some}
 use mathlib.Core.List.{List, [], _∷_, _++_, map}
-use Prim.Native.Nat.{ℕ, _<_}
+use Prim.Native.Nat.{ℕ, _^_, _<_}
 use lib.Dec.{eqb, leb}
 use lib.ListN.{length, getD}
 use Rattle.carv_budget.specs.Account.{period}
+use Rattle.carv_budget.specs.Panics.{AllPass}
 use Rattle.carv_objects_spec.specs.Registry.{is-budget}
+use Rattle.carv_objects_spec.specs.Panics as panics
 use Rattle.carv_objects_spec.specs.Book as objects
 use Rattle.carv_objects_spec.specs.Book.{Differences, is-live, budget-of}
 use Rattle.carv_scheduler.specs.declared.Answer.{Answer}
@@ -22,6 +24,7 @@ use Rattle.carv_scheduler_spec.specs.Book as book
 use Rattle.carv_scheduler_spec.specs.Book.{Book, on-objects, plan}
 use Rattle.carv_scheduler_spec.specs.Runs.{run, after, Numbered, write-all, Fits}
 use Rattle.carv_scheduler_spec.specs.Rust as rust
+use Rattle.carv_scheduler_spec.specs.Panics.{NoPanics}
 use Rattle.carv_scheduler_spec.specs.Demand1.{renewal-left}
 use Rattle.carv_scheduler_spec.specs.Demand2.{rust-run, is-added}
 use Rattle.carv_scheduler_spec.specs.Demand3.{line-of, figures-of, Planned}
@@ -113,8 +116,18 @@ abbrev pub NoneAdded : List Made → Type 0
 NoneAdded [] = Unit {0}
 NoneAdded (e ∷ es) = (is-added (e .call) (e .returned) ≡ false) × NoneAdded es
 
+-- a new thread's id is a 64-bit number, as each argument of a C function is
+abbrev pub AllWords : List Made → Type 0
+AllWords [] = Unit {0}
+AllWords (e ∷ es) = Fits (e .call) × AllWords es
+
+-- The answers are the Rust's, and the Rust gives them: on the way none of its `expect`s fails and no sum leaves 64 bits (`Panics.antt`).
+pub record AsTheRust (es : List Made) (cpu memory : ℕ) : Type 0 where
+  pub answers : AsRust es (rust.new cpu memory)
+  pub no-panics : memory < 2 ^ 64 → AllWords es → AllPass (panics.new 1 cpu memory) × NoPanics (map (λ (e : Made). e .call) es) 2 (rust.new cpu memory)
+
 abbrev pub Demand2 : Type 0
-Demand2 = (cpu memory : ℕ) (a₀ a out out′ : List ℕ) → Opens cpu memory a₀ out 0 a out′ → (es : List Made) → Ran es a → NoneAdded es → AsRust es (rust.new cpu memory)
+Demand2 = (cpu memory : ℕ) (a₀ a out out′ : List ℕ) → Opens cpu memory a₀ out 0 a out′ → (es : List Made) → Ran es a → NoneAdded es → AsTheRust es cpu memory
 
 -- Demand 3. The book is fed the arguments and, of the answers, only the numbers.
 abbrev pub told : List Made → List Numbered
@@ -122,11 +135,6 @@ told es = map (λ (e : Made). record { call = e .call; number = e .returned }) e
 
 abbrev pub booked : List Made → (cpu memory : ℕ) → Book
 booked es cpu memory = write-all (told es) (book.opening cpu memory)
-
--- a new thread's id is a 64-bit number, as each argument of a C function is
-abbrev pub AllWords : List Made → Type 0
-AllWords [] = Unit {0}
-AllWords (e ∷ es) = Fits (e .call) × AllWords es
 
 -- what holds of a list of calls es on an area a, opened with this CPU share and memory
 pub record ByTheBook (es : List Made) (a : List ℕ) (cpu memory : ℕ) : Type 0 where
