@@ -54,6 +54,42 @@ FOLLOWS = {'carv_registry': [word('Follows', 'FollowsRegistry')],
     'carv': [word('Follows', 'LentAlone')]}
 
 
+NUMBERS = 'unsound share tick code id full missing state root pays charge limit kind backing return'.split()
+
+
+def argument_end(line, i):
+    """Where the argument that begins at i ends: a name, or what stands in brackets. None if it doesn't end on the line."""
+    if line[i] != '(':
+        m = re.compile(r"[\w\-′«».]+").match(line, i)
+        return m and m.end()
+    depth = 0
+    for j in range(i, len(line)):
+        depth += (line[j] in '({') - (line[j] in ')}')
+        if depth == 0:
+            return j + 1
+    return None
+
+
+def accepts(line):
+    """`accept` lost its third argument, the state before; at the end of a `do` block it is `finish`."""
+    out, i = '', 0
+    for m in re.finditer(r'(?<![\w-])accept(?= )', line):
+        ends, j = [], m.end()
+        while len(ends) < 3 and j + 1 < len(line) and line[j] == ' ' and line[j + 1] not in ')≡→×∙;,\n':
+            if line[j + 1] == '{':
+                j = line.index('}', j) + 1
+                continue
+            j = argument_end(line, j + 1)
+            if j is None:
+                break
+            ends.append(j)
+        if len(ends) == 3:
+            out, i = out + line[i:ends[1]], ends[2]
+        elif line[:m.start()].strip() == '':
+            out, i = out + line[i:m.start()] + 'finish', m.end()
+    return out + line[i:]
+
+
 def moved(path):
     """Where a file of c5e0618 stands now."""
     m = re.match(r'crates/(\w+)/(.*)$', path)
@@ -82,6 +118,10 @@ def line_rewritten(line, path):
         if re.match(r'(ghost )?use .*carv_board.*\.Scheduler\.\{', head):
             head = re.sub(r'(?<![\w-])payer(?![\w-])', 'budget-id', head)
         line = head + mark + comment
+        if '/specs/' in path and not line.startswith('use '):
+            line = accepts(line)
+        if re.search(r'specs/(Registry|Scheduler)\.antt$', path):
+            line = re.sub(r'\bask (\d+) ', lambda m: 'ask refused.%s ' % NUMBERS[int(m[1]) - 1] if int(m[1]) <= len(NUMBERS) else m[0], line)
         if '/specs/' in path and crate != 'carv_area' and crate != 'carv_budget' or path.endswith('ticking.rt'):
             line = re.sub(r' \.now\b', ' .after', line)
             line = re.sub(r'; now = |^(\s+)now = (?=λ)', lambda m: '; after = ' if m[0][0] == ';' else m[1] + 'after = ', line)

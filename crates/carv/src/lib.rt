@@ -1,6 +1,8 @@
 // The functions for C: the area and 20 answer words are lent, the number is returned, and the values of the answer stand in the
 // first answer words. specs/C.antt says which.
 use carv_budget::Account;
+use carv_objects::refused;
+use carv_scheduler::ACCEPTED;
 use carv_scheduler::Answer;
 use carv_scheduler_spec::Context;
 use carv_scheduler_spec::Results;
@@ -71,35 +73,35 @@ fn report_registry(answer: carv_objects::Answer, out: &mut [u64]) -> u64
     ensures { λ r. ⌜ (r ≡ registry.number answer) × (now (out .exit) ≡ registry-reported answer (now (out .entry))) ⌝ }
 {
     match answer {
-        carv_objects::Answer::Done => 0,
+        carv_objects::Answer::Done => ACCEPTED,
         carv_objects::Answer::Id(id) => {
             out[0] = id;
-            0
+            ACCEPTED
         }
         carv_objects::Answer::Renewed => {
             out[0] = 1;
-            0
+            ACCEPTED
         }
         carv_objects::Answer::NotDue => {
             out[0] = 0;
-            0
+            ACCEPTED
         }
         carv_objects::Answer::Pays => {
             out[0] = 1;
-            0
+            ACCEPTED
         }
         carv_objects::Answer::PaysNothing => {
             out[0] = 0;
-            0
+            ACCEPTED
         }
         carv_objects::Answer::AccountOf(account) => {
             write_account(out, account);
-            0
+            ACCEPTED
         }
         carv_objects::Answer::Charge(payer, bytes) => {
             out[0] = payer;
             out[1] = bytes;
-            0
+            ACCEPTED
         }
         carv_objects::Answer::Refused(number) => number,
     }
@@ -111,11 +113,11 @@ fn report(answer: Answer, out: &mut [u64]) -> u64
     ensures { λ r. ⌜ (r ≡ number answer) × (now (out .exit) ≡ reported answer (now (out .entry))) ⌝ }
 {
     match answer {
-        Answer::Done => 0,
+        Answer::Done => ACCEPTED,
         Answer::Registry(answer) => report_registry(answer, out),
         Answer::NoSwitch => {
             out[0] = 0;
-            0
+            ACCEPTED
         }
         Answer::Switch(old, new, root) => {
             out[0] = 1;
@@ -123,48 +125,48 @@ fn report(answer: Answer, out: &mut [u64]) -> u64
             out[2] = new;
             out[3] = 1;
             out[4] = root;
-            0
+            ACCEPTED
         }
         Answer::SwitchToKernel(old, new) => {
             out[0] = 1;
             out[1] = old;
             out[2] = new;
             out[3] = 0;
-            0
+            ACCEPTED
         }
         Answer::Ended(wait) => {
             out[0] = wait.kind;
             out[1] = wait.number;
-            0
+            ACCEPTED
         }
         Answer::EndedNothing => {
             out[0] = 0;
             out[1] = 0;
-            0
+            ACCEPTED
         }
         Answer::Blocked => {
             out[0] = 1;
-            0
+            ACCEPTED
         }
         Answer::NotBlocked => {
             out[0] = 0;
-            0
+            ACCEPTED
         }
         Answer::Record(thread) => {
             write_record(out, thread);
-            0
+            ACCEPTED
         }
         Answer::Word(n) => {
             out[0] = n;
-            0
+            ACCEPTED
         }
         Answer::Cause(cause) => {
             out[0] = cause;
-            0
+            ACCEPTED
         }
         Answer::NoCause => {
             out[0] = 0;
-            0
+            ACCEPTED
         }
         Answer::Refused(number) => number,
     }
@@ -189,7 +191,7 @@ pub extern "C" fn carv_open(area: &mut [u8], cpu: u64, memory: u64, out: &mut [u
     ensures { λ r. ⌜ Opens cpu memory (now (area .entry)) (now (out .entry)) r (now (area .exit)) (now (out .exit)) ⌝ }
 {
     if out.len() != WORDS {
-        return 1;
+        return refused::UNSOUND;
     }
     let answer = carv_scheduler::open(area, cpu, memory);
     report(answer, out)
@@ -207,13 +209,14 @@ pub extern "C" fn carv_create_user_thread(
     ensures { λ r. ⌜ ExportedWithImage (create-user-thread id budget stack) (now (area .entry)) (now (image .entry)) (now (out .entry)) r (now (area .exit)) (now (image .exit)) (now (out .exit)) ⌝ }
 {
     if out.len() != WORDS {
-        return 1;
+        return refused::UNSOUND;
     }
     let answer = carv_scheduler::create_user_thread(area, id, budget, stack, image);
     report(answer, out)
 }
 
 // The calls.
+// Written by tools/entries.py from its list of calls; what stands below this line is replaced.
 
 #[no_mangle]
 pub extern "C" fn carv_create(
@@ -226,7 +229,7 @@ pub extern "C" fn carv_create(
     ensures { λ r. ⌜ Exported (on-objects (objects.create kind payer backing)) (now (area .entry)) (now (out .entry)) r (now (area .exit)) (now (out .exit)) ⌝ }
 {
     if out.len() != WORDS {
-        return 1;
+        return refused::UNSOUND;
     }
     let answer = carv_scheduler::create(area, kind, payer, backing);
     report(answer, out)
@@ -243,7 +246,7 @@ pub extern "C" fn carv_insert(
     ensures { λ r. ⌜ Exported (on-objects (objects.insert kind payer bytes)) (now (area .entry)) (now (out .entry)) r (now (area .exit)) (now (out .exit)) ⌝ }
 {
     if out.len() != WORDS {
-        return 1;
+        return refused::UNSOUND;
     }
     let answer = carv_scheduler::insert(area, kind, payer, bytes);
     report(answer, out)
@@ -261,7 +264,7 @@ pub extern "C" fn carv_create_budget(
     ensures { λ r. ⌜ Exported (on-objects (objects.create-budget parent cpu memory time)) (now (area .entry)) (now (out .entry)) r (now (area .exit)) (now (out .exit)) ⌝ }
 {
     if out.len() != WORDS {
-        return 1;
+        return refused::UNSOUND;
     }
     let answer = carv_scheduler::create_budget(area, parent, cpu, memory, time);
     report(answer, out)
@@ -272,7 +275,7 @@ pub extern "C" fn carv_charge_more(area: &mut [u8], id: u64, bytes: u64, out: &m
     ensures { λ r. ⌜ Exported (on-objects (objects.charge-more id bytes)) (now (area .entry)) (now (out .entry)) r (now (area .exit)) (now (out .exit)) ⌝ }
 {
     if out.len() != WORDS {
-        return 1;
+        return refused::UNSOUND;
     }
     let answer = carv_scheduler::charge_more(area, id, bytes);
     report(answer, out)
@@ -283,7 +286,7 @@ pub extern "C" fn carv_uncharge(area: &mut [u8], id: u64, bytes: u64, out: &mut 
     ensures { λ r. ⌜ Exported (on-objects (objects.uncharge id bytes)) (now (area .entry)) (now (out .entry)) r (now (area .exit)) (now (out .exit)) ⌝ }
 {
     if out.len() != WORDS {
-        return 1;
+        return refused::UNSOUND;
     }
     let answer = carv_scheduler::uncharge(area, id, bytes);
     report(answer, out)
@@ -294,7 +297,7 @@ pub extern "C" fn carv_remove(area: &mut [u8], id: u64, out: &mut [u64]) -> u64
     ensures { λ r. ⌜ Exported (on-objects (objects.remove id)) (now (area .entry)) (now (out .entry)) r (now (area .exit)) (now (out .exit)) ⌝ }
 {
     if out.len() != WORDS {
-        return 1;
+        return refused::UNSOUND;
     }
     let answer = carv_scheduler::remove(area, id);
     report(answer, out)
@@ -305,7 +308,7 @@ pub extern "C" fn carv_refill(area: &mut [u8], id: u64, time: u64, out: &mut [u6
     ensures { λ r. ⌜ Exported (on-objects (objects.refill id time)) (now (area .entry)) (now (out .entry)) r (now (area .exit)) (now (out .exit)) ⌝ }
 {
     if out.len() != WORDS {
-        return 1;
+        return refused::UNSOUND;
     }
     let answer = carv_scheduler::refill(area, id, time);
     report(answer, out)
@@ -322,7 +325,7 @@ pub extern "C" fn carv_charge_cpu(
     ensures { λ r. ⌜ Exported (on-objects (objects.charge-cpu id ns time)) (now (area .entry)) (now (out .entry)) r (now (area .exit)) (now (out .exit)) ⌝ }
 {
     if out.len() != WORDS {
-        return 1;
+        return refused::UNSOUND;
     }
     let answer = carv_scheduler::charge_cpu(area, id, ns, time);
     report(answer, out)
@@ -333,7 +336,7 @@ pub extern "C" fn carv_pays_for_anything(area: &[u8], id: u64, out: &mut [u64]) 
     ensures { λ r. ⌜ Exported (on-objects (objects.pays-for-anything id)) (now (area .entry)) (now (out .entry)) r (now (area .entry)) (now (out .exit)) ⌝ }
 {
     if out.len() != WORDS {
-        return 1;
+        return refused::UNSOUND;
     }
     let answer = carv_scheduler::pays_for_anything(area, id);
     report(answer, out)
@@ -344,7 +347,7 @@ pub extern "C" fn carv_account(area: &[u8], id: u64, out: &mut [u64]) -> u64
     ensures { λ r. ⌜ Exported (on-objects (objects.read-account id)) (now (area .entry)) (now (out .entry)) r (now (area .entry)) (now (out .exit)) ⌝ }
 {
     if out.len() != WORDS {
-        return 1;
+        return refused::UNSOUND;
     }
     let answer = carv_scheduler::account(area, id);
     report(answer, out)
@@ -355,7 +358,7 @@ pub extern "C" fn carv_charge_of(area: &[u8], id: u64, out: &mut [u64]) -> u64
     ensures { λ r. ⌜ Exported (on-objects (objects.charge-of id)) (now (area .entry)) (now (out .entry)) r (now (area .entry)) (now (out .exit)) ⌝ }
 {
     if out.len() != WORDS {
-        return 1;
+        return refused::UNSOUND;
     }
     let answer = carv_scheduler::charge_of(area, id);
     report(answer, out)
@@ -380,7 +383,7 @@ pub extern "C" fn carv_start(
     ensures { λ r. ⌜ Exported (start id space cspace root (record { rip = rip; rsp = rsp; rflags = rflags; rdi = rdi; rsi = rsi; cs = cs; ss = ss })) (now (area .entry)) (now (out .entry)) r (now (area .exit)) (now (out .exit)) ⌝ }
 {
     if out.len() != WORDS {
-        return 1;
+        return refused::UNSOUND;
     }
     let context = Context {
         rip,
@@ -405,7 +408,7 @@ pub extern "C" fn carv_block_current(
     ensures { λ r. ⌜ Exported (block-current kind number) (now (area .entry)) (now (out .entry)) r (now (area .exit)) (now (out .exit)) ⌝ }
 {
     if out.len() != WORDS {
-        return 1;
+        return refused::UNSOUND;
     }
     let answer = carv_scheduler::block_current(area, kind, number);
     report(answer, out)
@@ -423,7 +426,7 @@ pub extern "C" fn carv_wake(
     ensures { λ r. ⌜ Exported (wake id (record { first = first; second = second; third = third })) (now (area .entry)) (now (out .entry)) r (now (area .exit)) (now (out .exit)) ⌝ }
 {
     if out.len() != WORDS {
-        return 1;
+        return refused::UNSOUND;
     }
     let results = Results {
         first,
@@ -445,7 +448,7 @@ pub extern "C" fn carv_is_blocked_on(
     ensures { λ r. ⌜ Exported (is-blocked-on id kind number) (now (area .entry)) (now (out .entry)) r (now (area .entry)) (now (out .exit)) ⌝ }
 {
     if out.len() != WORDS {
-        return 1;
+        return refused::UNSOUND;
     }
     let answer = carv_scheduler::is_blocked_on(area, id, kind, number);
     report(answer, out)
@@ -456,7 +459,7 @@ pub extern "C" fn carv_kill(area: &mut [u8], id: u64, cause: u64, out: &mut [u64
     ensures { λ r. ⌜ Exported (kill id cause) (now (area .entry)) (now (out .entry)) r (now (area .exit)) (now (out .exit)) ⌝ }
 {
     if out.len() != WORDS {
-        return 1;
+        return refused::UNSOUND;
     }
     let answer = carv_scheduler::kill(area, id, cause);
     report(answer, out)
@@ -467,7 +470,7 @@ pub extern "C" fn carv_tick(area: &mut [u8], n: u64, out: &mut [u64]) -> u64
     ensures { λ r. ⌜ Exported (tick n) (now (area .entry)) (now (out .entry)) r (now (area .exit)) (now (out .exit)) ⌝ }
 {
     if out.len() != WORDS {
-        return 1;
+        return refused::UNSOUND;
     }
     let answer = carv_scheduler::tick(area, n);
     report(answer, out)
@@ -478,7 +481,7 @@ pub extern "C" fn carv_plan(area: &mut [u8], n: u64, out: &mut [u64]) -> u64
     ensures { λ r. ⌜ Exported (plan n) (now (area .entry)) (now (out .entry)) r (now (area .exit)) (now (out .exit)) ⌝ }
 {
     if out.len() != WORDS {
-        return 1;
+        return refused::UNSOUND;
     }
     let answer = carv_scheduler::plan(area, n);
     report(answer, out)
@@ -489,7 +492,7 @@ pub extern "C" fn carv_read_thread(area: &[u8], id: u64, out: &mut [u64]) -> u64
     ensures { λ r. ⌜ Exported (read-thread id) (now (area .entry)) (now (out .entry)) r (now (area .entry)) (now (out .exit)) ⌝ }
 {
     if out.len() != WORDS {
-        return 1;
+        return refused::UNSOUND;
     }
     let answer = carv_scheduler::read_thread(area, id);
     report(answer, out)
@@ -500,7 +503,7 @@ pub extern "C" fn carv_current(area: &[u8], out: &mut [u64]) -> u64
     ensures { λ r. ⌜ Exported read-current (now (area .entry)) (now (out .entry)) r (now (area .entry)) (now (out .exit)) ⌝ }
 {
     if out.len() != WORDS {
-        return 1;
+        return refused::UNSOUND;
     }
     let answer = carv_scheduler::current(area);
     report(answer, out)
@@ -511,7 +514,7 @@ pub extern "C" fn carv_switches(area: &[u8], out: &mut [u64]) -> u64
     ensures { λ r. ⌜ Exported read-switches (now (area .entry)) (now (out .entry)) r (now (area .entry)) (now (out .exit)) ⌝ }
 {
     if out.len() != WORDS {
-        return 1;
+        return refused::UNSOUND;
     }
     let answer = carv_scheduler::switches(area);
     report(answer, out)
@@ -522,7 +525,7 @@ pub extern "C" fn carv_exit_of(area: &[u8], id: u64, out: &mut [u64]) -> u64
     ensures { λ r. ⌜ Exported (exit-of id) (now (area .entry)) (now (out .entry)) r (now (area .entry)) (now (out .exit)) ⌝ }
 {
     if out.len() != WORDS {
-        return 1;
+        return refused::UNSOUND;
     }
     let answer = carv_scheduler::exit_of(area, id);
     report(answer, out)

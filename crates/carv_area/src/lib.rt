@@ -1,11 +1,12 @@
-// 64-bit words in a lent area of bytes, the least byte first, and tables in it.
+// 64-bit words in a lent area of bytes, the least byte first, and tables in it. A function that changes its bytes gives them all: the words,
+// and that those behind the last whole word stay.
 ghost use mathlib.Core.Path.{_≡_};
 ghost use mathlib.Core.Logic.{_⊎_};
 ghost use mathlib.Core.List.{[], _∷_, _++_};
 ghost use Prim.Native.Nat.{_+_, _*_, _-_, _≤_, _<_};
 ghost use lib.ListN.{length, getD, set, drop};
 ghost use Rattle.carv_area.specs.Le.{le2, le4, le8, set2, set4, set8};
-ghost use Rattle.carv_area.specs.Words.{words};
+ghost use Rattle.carv_area.specs.Words.{words, rest, Writes};
 ghost use Rattle.carv_area.specs.Moves.{moveDown, moveUp, wipe, cutRow, openRow};
 ghost use Rattle.carv_area.specs.Rows.{removeAt};
 ghost use Rattle.carv_area.specs.Keys.{keys, findIn};
@@ -84,7 +85,7 @@ pub fn get(a: &[u8], k: usize) -> u64
 // v at word number k of a.
 pub fn put(a: &mut [u8], k: usize, v: u64)
     requires { ⌜ k * 8 + 8 ≤ length (now a) ⌝ }
-    ensures { λ _. ⌜ words (now (a .exit)) ≡ set (words (now (a .entry))) k v ⌝ }
+    ensures { λ _. ⌜ Writes (now (a .entry)) (now (a .exit)) (set (words (now (a .entry))) k v) ⌝ }
 {
     put8(a, k * 8, v)
 }
@@ -202,7 +203,7 @@ pub fn find_near(t: &[u8], w: usize, id: u64, guess: usize) -> Found
 // The m words from place o + c move down to place o.
 pub fn shift_down(t: &mut [u8], o: usize, c: usize, m: usize)
     requires { ⌜ ((o + c) + m) * 8 ≤ length (now t) ⌝ }
-    ensures { λ _. ⌜ words (now (t .exit)) ≡ moveDown o c m (words (now (t .entry))) ⌝ }
+    ensures { λ _. ⌜ Writes (now (t .entry)) (now (t .exit)) (moveDown o c m (words (now (t .entry)))) ⌝ }
 {
     let f = o + c;
     let mut j = 0;
@@ -216,7 +217,7 @@ pub fn shift_down(t: &mut [u8], o: usize, c: usize, m: usize)
 // The m words from place o move up to place o + c.
 pub fn shift_up(t: &mut [u8], o: usize, c: usize, m: usize)
     requires { ⌜ ((o + c) + m) * 8 ≤ length (now t) ⌝ }
-    ensures { λ _. ⌜ words (now (t .exit)) ≡ moveUp o c m (words (now (t .entry))) ⌝ }
+    ensures { λ _. ⌜ Writes (now (t .entry)) (now (t .exit)) (moveUp o c m (words (now (t .entry)))) ⌝ }
 {
     let f = o + c;
     let mut j = m;
@@ -230,7 +231,7 @@ pub fn shift_up(t: &mut [u8], o: usize, c: usize, m: usize)
 // The n words from place o are 0.
 pub fn clear(t: &mut [u8], o: usize, n: usize)
     requires { ⌜ (o + n) * 8 ≤ length (now t) ⌝ }
-    ensures { λ _. ⌜ words (now (t .exit)) ≡ wipe o n (words (now (t .entry))) ⌝ }
+    ensures { λ _. ⌜ Writes (now (t .entry)) (now (t .exit)) (wipe o n (words (now (t .entry)))) ⌝ }
 {
     let mut j = 0;
     while j < n {
@@ -243,7 +244,7 @@ pub fn clear(t: &mut [u8], o: usize, n: usize)
 pub fn remove_row(t: &mut [u8], w: usize, i: usize)
     requires { ⌜ (getD (words (now t)) 0 0 * w + 1) * 8 ≤ length (now t) ⌝ }
     requires { ⌜ i < getD (words (now t)) 0 0 ⌝ }
-    ensures { λ _. ⌜ words (now (t .exit)) ≡ cutRow w i (getD (words (now (t .entry))) 0 0) (words (now (t .entry))) ⌝ }
+    ensures { λ _. ⌜ Writes (now (t .entry)) (now (t .exit)) (cutRow w i (getD (words (now (t .entry))) 0 0) (words (now (t .entry)))) ⌝ }
 {
     let n = get(t, 0) as usize;
     let o = i * w + 1;
@@ -258,7 +259,7 @@ pub fn insert_row(t: &mut [u8], w: usize, i: usize)
     requires { ⌜ 1 ≤ w ⌝ }
     requires { ⌜ (getD (words (now t)) 0 0 * w + w + 1) * 8 ≤ length (now t) ⌝ }
     requires { ⌜ i ≤ getD (words (now t)) 0 0 ⌝ }
-    ensures { λ _. ⌜ words (now (t .exit)) ≡ openRow w i (getD (words (now (t .entry))) 0 0) (words (now (t .entry))) ⌝ }
+    ensures { λ _. ⌜ Writes (now (t .entry)) (now (t .exit)) (openRow w i (getD (words (now (t .entry))) 0 0) (words (now (t .entry)))) ⌝ }
 {
     let n = get(t, 0) as usize;
     shift_up(t, i * w + 1, w, (n - i) * w);
@@ -286,6 +287,7 @@ pub fn push(t: &mut [u8], v: u64)
     requires { ⌜ Queue (now t) (keys 1 (words (now t))) ⌝ }
     requires { ⌜ (length (keys 1 (words (now t))) + 1) * 8 + 8 ≤ length (now t) ⌝ }
     ensures { λ _. ⌜ Queue (now (t .exit)) (keys 1 (words (now (t .entry))) ++ (v ∷ [])) ⌝ }
+    ensures { λ _. ⌜ rest (now (t .exit)) ≡ rest (now (t .entry)) ⌝ }
 {
     let n = get(t, 0) as usize;
     put(t, n + 1, v);
@@ -296,7 +298,9 @@ pub fn push(t: &mut [u8], v: u64)
 pub fn pull(t: &mut [u8], i: usize) -> u64
     requires { ⌜ Queue (now t) (keys 1 (words (now t))) ⌝ }
     requires { ⌜ i < length (keys 1 (words (now t))) ⌝ }
-    ensures { λ r. ⌜ (r ≡ getD (keys 1 (words (now (t .entry)))) i 0) × Queue (now (t .exit)) (removeAt (keys 1 (words (now (t .entry)))) i) ⌝ }
+    ensures { λ r. ⌜ r ≡ getD (keys 1 (words (now (t .entry)))) i 0 ⌝ }
+    ensures { λ _. ⌜ Queue (now (t .exit)) (removeAt (keys 1 (words (now (t .entry)))) i) ⌝ }
+    ensures { λ _. ⌜ rest (now (t .exit)) ≡ rest (now (t .entry)) ⌝ }
 {
     let v = get(t, i + 1);
     remove_row(t, 1, i);

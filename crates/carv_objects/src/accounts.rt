@@ -1,6 +1,7 @@
 // The operations of carv_budget's accounts, as the registry uses them: on sound accounts.
 use carv_budget::Account;
 use carv_budget::Answer;
+use carv_budget::Outcome;
 ghost use mathlib.Core.Path.{_≡_};
 ghost use mathlib.Core.Bool.{true};
 ghost use Prim.Native.Nat.{_≤_, min};
@@ -38,17 +39,24 @@ fn is_done(answer: Answer) -> bool
     }
 }
 
+// What an operation with this outcome books.
+fn booking(outcome: Outcome) -> Booked
+    ensures { λ r. ⌜ Books (done (outcome .answer)) (outcome .account) r ⌝ }
+{
+    let answer = outcome.answer;
+    if is_done(answer) {
+        let account = outcome.account;
+        return Booked::Yes(account);
+    }
+    Booked::No
+}
+
 // A new account, if its share is at most the period.
 pub fn opened(cpu: u64, memory: u64) -> Booked
     ensures { λ r. ⌜ Books (leb cpu period) (fresh cpu memory 0) r ⌝ }
 {
     let done = Account::new(cpu, memory, 0);
-    let answer = done.answer;
-    if is_done(answer) {
-        let account = done.account;
-        return Booked::Yes(account);
-    }
-    Booked::No
+    booking(done)
 }
 
 // Memory charged, if it can be covered.
@@ -57,12 +65,7 @@ pub fn charge(a: Account, bytes: u64) -> Booked
     ensures { λ r. ⌜ Books (leb bytes (free a)) (charge a bytes) r ⌝ }
 {
     let done = a.charge_memory(bytes);
-    let answer = done.answer;
-    if is_done(answer) {
-        let account = done.account;
-        return Booked::Yes(account);
-    }
-    Booked::No
+    booking(done)
 }
 
 // Memory credited.
@@ -88,12 +91,7 @@ pub fn spend(a: Account, ns: u64, time: u64) -> Booked
     ensures { λ r. ⌜ Books (leb ns (renew a time .«cpu_left»)) (spend (renew a time) ns) r ⌝ }
 {
     let done = a.charge_cpu(ns, time);
-    let answer = done.answer;
-    if is_done(answer) {
-        let account = done.account;
-        return Booked::Yes(account);
-    }
-    Booked::No
+    booking(done)
 }
 
 fn least(x: u64, y: u64) -> u64
@@ -122,12 +120,7 @@ pub fn give_back(a: Account, child: Account) -> Booked
     ensures { λ r. ⌜ Books (returnable a child) (return a child) r ⌝ }
 {
     let done = a.release_child(child);
-    let answer = done.answer;
-    if is_done(answer) {
-        let account = done.account;
-        return Booked::Yes(account);
-    }
-    Booked::No
+    booking(done)
 }
 
 // A child carved out of the renewed account, if its share is left.

@@ -1,4 +1,5 @@
 // The registry's area: its parts, each lent to one function of the table. docs/LAYOUT.md has the layout.
+use crate::kinds::Kind;
 use crate::rows;
 use carv_area::Found;
 use carv_budget::Account;
@@ -12,10 +13,10 @@ ghost use Rattle.carv_area.specs.Table.{Rising};
 ghost use Rattle.carv_area.specs.Rows.{removeAt};
 ghost use Rattle.carv_area.specs.Lookup.{Located, Here};
 ghost use Rattle.carv_objects_spec.specs.Registry.{has-place, has-next, budget, object, add};
-ghost use Rattle.carv_objects.specs.Area.{decode};
+ghost use Rattle.carv_objects.specs.Area.{table, decode};
 ghost use Rattle.carv_objects.specs.laws.Rows.{row, no-row};
 ghost use Rattle.carv_objects.specs.laws.Formed.{WellFormed, Leaves};
-ghost use Rattle.carv_objects.specs.laws.AreaSteps.{with-next, with-rows, BudgetAt};
+ghost use Rattle.carv_objects.specs.laws.AreaSteps.{with-rows, BudgetAt};
 
 // Where the table starts, and the length of the area.
 pub const TABLE: usize = 8;
@@ -23,25 +24,24 @@ pub const TABLE: usize = 8;
 pub const BYTES: usize = 45_072;
 
 // How many objects there can be, and the first id that is never given.
-const PLACES: usize = 512;
+pub const PLACES: usize = 512;
 
 const LAST_ID: u64 = 18_446_744_073_709_551_615;
 
-// The code of Kind::Budget.
-const BUDGET: u64 = 6;
+// The id of the root budget.
+pub const ROOT: u64 = 1;
 
 // The id that the next object gets.
 pub fn next_id(a: &[u8]) -> u64
-    requires { ⌜ WellFormed (now a) ⌝ }
+    requires { ⌜ 8 ≤ length (now a) ⌝ }
     ensures { λ r. ⌜ r ≡ decode (now (a .entry)) .next ⌝ }
 {
     carv_area::get(&a[0..TABLE], 0)
 }
 
 pub fn set_next(a: &mut [u8], n: u64)
-    requires { ⌜ WellFormed (now a) ⌝ }
-    requires { ⌜ Rising 1 n (decode (now a) .rows) ⌝ }
-    ensures { λ _. ⌜ Leaves (now (a .exit)) (with-next n (decode (now (a .entry)))) ⌝ }
+    requires { ⌜ length (now a) ≡ 45_072 ⌝ }
+    ensures { λ _. ⌜ (decode (now (a .exit)) .next ≡ n) × (table (now (a .exit)) ≡ table (now (a .entry))) ⌝ }
 {
     carv_area::put(&mut a[0..TABLE], 0, n)
 }
@@ -59,7 +59,7 @@ pub fn find(a: &[u8], id: u64) -> Found
     requires { ⌜ WellFormed (now a) ⌝ }
     ensures { λ r. ⌜ Located no-row (decode (now (a .entry)) .rows) id r ⌝ }
 {
-    carv_area::find(&a[TABLE..BYTES], 11, id)
+    carv_area::find(&a[TABLE..BYTES], rows::ROW, id)
 }
 
 // The id at place i.
@@ -68,7 +68,7 @@ pub fn id_at(a: &[u8], i: usize) -> u64
     requires { ⌜ i < length (decode (now a) .rows) ⌝ }
     ensures { λ r. ⌜ r ≡ getD (decode (now (a .entry)) .rows) i no-row .id ⌝ }
 {
-    carv_area::get(&a[TABLE..BYTES], i * 11 + 1)
+    carv_area::get(&a[TABLE..BYTES], i * rows::ROW + rows::ID)
 }
 
 // The payer of the object at place i.
@@ -77,7 +77,7 @@ pub fn payer_at(a: &[u8], i: usize) -> u64
     requires { ⌜ i < length (decode (now a) .rows) ⌝ }
     ensures { λ r. ⌜ r ≡ getD (decode (now (a .entry)) .rows) i no-row .it .payer ⌝ }
 {
-    carv_area::get(&a[TABLE..BYTES], i * 11 + 3)
+    carv_area::get(&a[TABLE..BYTES], i * rows::ROW + rows::PAYER)
 }
 
 // The entry at place i.
@@ -113,7 +113,7 @@ pub fn take_out(a: &mut [u8], i: usize)
     requires { ⌜ i < length (decode (now a) .rows) ⌝ }
     ensures { λ _. ⌜ Leaves (now (a .exit)) (with-rows (removeAt (decode (now (a .entry)) .rows) i) (decode (now (a .entry)))) ⌝ }
 {
-    carv_area::remove_row(&mut a[TABLE..BYTES], 11, i)
+    carv_area::remove_row(&mut a[TABLE..BYTES], rows::ROW, i)
 }
 
 // Is there a place, and an id to give?
@@ -139,7 +139,7 @@ pub fn find_budget(a: &[u8], id: u64) -> Found
         return Found::Nothing;
     };
     let e = entry_at(a, i);
-    if e.kind != BUDGET {
+    if e.kind != Kind::BUDGET_CODE {
         return Found::Nothing;
     }
     Found::At(i)

@@ -6,6 +6,7 @@ use crate::accounts;
 use crate::accounts::Booked;
 use crate::accounts::Carved;
 use crate::area;
+use crate::refused;
 use carv_area::Found;
 use carv_budget::Account;
 use carv_objects_spec::Entry;
@@ -25,11 +26,6 @@ ghost use Rattle.carv_objects.specs.Area.{decode, sound-area, Serves};
 ghost use Rattle.carv_objects.specs.laws.Rows.{no-row};
 ghost use Rattle.carv_objects.specs.laws.Formed.{WellFormed, Leaves};
 ghost use Rattle.carv_objects.specs.laws.AreaSteps.{with-rows};
-
-// The code of Kind::Budget, and the id of the root budget.
-const BUDGET: u64 = 6;
-
-const ROOT: u64 = 1;
 
 // Is the backing there, or none needed?
 fn has_backing(kind: Kind, backing: bool) -> bool
@@ -70,20 +66,20 @@ pub fn insert(a: &mut [u8], code: u64, payer: u64, bytes: u64) -> Answer
     ensures { λ r. ⌜ Serves (insert code payer bytes) (now (a .entry)) r (now (a .exit)) ⌝ }
 {
     if !Kind::is_listed(code) {
-        return Answer::Refused(4);
+        return Answer::Refused(refused::CODE);
     }
-    if code == BUDGET {
-        return Answer::Refused(4);
+    if code == Kind::BUDGET_CODE {
+        return Answer::Refused(refused::CODE);
     }
     if !area::has_room(a) {
-        return Answer::Refused(6);
+        return Answer::Refused(refused::FULL);
     }
     let Found::At(i) = area::find_budget(a, payer) else {
-        return Answer::Refused(7);
+        return Answer::Refused(refused::MISSING);
     };
     let account = account_at(a, i);
     let Booked::Yes(paid) = accounts::charge(account, bytes) else {
-        return Answer::Refused(12);
+        return Answer::Refused(refused::LIMIT);
     };
     store(
         a,
@@ -104,24 +100,24 @@ pub fn create(a: &mut [u8], code: u64, payer: u64, backing: bool) -> Answer
     ensures { λ r. ⌜ Serves (create code payer backing) (now (a .entry)) r (now (a .exit)) ⌝ }
 {
     let KindCode::Listed(kind) = Kind::from_code(code) else {
-        return Answer::Refused(4);
+        return Answer::Refused(refused::CODE);
     };
     if !area::has_room(a) {
-        return Answer::Refused(6);
+        return Answer::Refused(refused::FULL);
     }
     let Found::At(i) = area::find_budget(a, payer) else {
-        return Answer::Refused(7);
+        return Answer::Refused(refused::MISSING);
     };
     let account = account_at(a, i);
     let bytes = kind.bytes();
     let Booked::Yes(paid) = accounts::charge(account, bytes) else {
-        return Answer::Refused(12);
+        return Answer::Refused(refused::LIMIT);
     };
     if !kind.is_creatable() {
-        return Answer::Refused(13);
+        return Answer::Refused(refused::KIND);
     }
     if !has_backing(kind, backing) {
-        return Answer::Refused(14);
+        return Answer::Refused(refused::BACKING);
     }
     store(
         a,
@@ -146,7 +142,7 @@ fn renew_and_refuse(a: &mut [u8], i: usize, id: u64, account: Account, time: u64
 {
     let renewed = accounts::renew(account, time);
     area::set_account(a, i, id, renewed);
-    Answer::Refused(12)
+    Answer::Refused(refused::LIMIT)
 }
 
 pub fn create_budget(a: &mut [u8], parent: u64, cpu: u64, memory: u64, time: u64) -> Answer
@@ -154,14 +150,14 @@ pub fn create_budget(a: &mut [u8], parent: u64, cpu: u64, memory: u64, time: u64
     ensures { λ r. ⌜ Serves (create-budget parent cpu memory time) (now (a .entry)) r (now (a .exit)) ⌝ }
 {
     if !area::has_room(a) {
-        return Answer::Refused(6);
+        return Answer::Refused(refused::FULL);
     }
     let Found::At(i) = area::find_budget(a, parent) else {
-        return Answer::Refused(7);
+        return Answer::Refused(refused::MISSING);
     };
     let account = account_at(a, i);
     let Booked::Yes(paid) = accounts::charge(account, Kind::BUDGET_BYTES) else {
-        return Answer::Refused(12);
+        return Answer::Refused(refused::LIMIT);
     };
     let Carved::Yes(rest, child) = accounts::carve(paid, cpu, memory, time) else {
         return renew_and_refuse(a, i, parent, account, time);
@@ -172,7 +168,7 @@ pub fn create_budget(a: &mut [u8], parent: u64, cpu: u64, memory: u64, time: u64
         parent,
         rest,
         Entry {
-            kind: BUDGET,
+            kind: Kind::BUDGET_CODE,
             payer: parent,
             charge: Kind::BUDGET_BYTES,
             account: child,
@@ -204,7 +200,7 @@ pub fn refill(a: &mut [u8], id: u64, time: u64) -> Answer
     ensures { λ r. ⌜ Serves (refill id time) (now (a .entry)) r (now (a .exit)) ⌝ }
 {
     let Found::At(i) = area::find_budget(a, id) else {
-        return Answer::Refused(7);
+        return Answer::Refused(refused::MISSING);
     };
     let account = account_at(a, i);
     let done = account.refill(time);
@@ -219,7 +215,7 @@ pub fn charge_cpu(a: &mut [u8], id: u64, ns: u64, time: u64) -> Answer
     ensures { λ r. ⌜ Serves (charge-cpu id ns time) (now (a .entry)) r (now (a .exit)) ⌝ }
 {
     let Found::At(i) = area::find_budget(a, id) else {
-        return Answer::Refused(7);
+        return Answer::Refused(refused::MISSING);
     };
     let account = account_at(a, i);
     let Booked::Yes(rest) = accounts::spend(account, ns, time) else {
@@ -235,7 +231,7 @@ pub fn account(a: &[u8], id: u64) -> Answer
     ensures { λ r. ⌜ Serves (read-account id) (now (a .entry)) r (now (a .entry)) ⌝ }
 {
     let Found::At(i) = area::find_budget(a, id) else {
-        return Answer::Refused(7);
+        return Answer::Refused(refused::MISSING);
     };
     let account = account_at(a, i);
     Answer::AccountOf(account)
@@ -247,7 +243,7 @@ pub fn charge_of(a: &[u8], id: u64) -> Answer
     ensures { λ r. ⌜ Serves (charge-of id) (now (a .entry)) r (now (a .entry)) ⌝ }
 {
     let Found::At(i) = area::find(a, id) else {
-        return Answer::Refused(7);
+        return Answer::Refused(refused::MISSING);
     };
     let e = area::entry_at(a, i);
     Answer::Charge(e.payer, e.charge)
@@ -290,13 +286,13 @@ pub fn charge_more(a: &mut [u8], id: u64, bytes: u64) -> Answer
     ensures { λ r. ⌜ Serves (charge-more id bytes) (now (a .entry)) r (now (a .exit)) ⌝ }
 {
     let Found::At(i) = area::find(a, id) else {
-        return Answer::Refused(7);
+        return Answer::Refused(refused::MISSING);
     };
     let e = area::entry_at(a, i);
     let j = payer_place(a, e.payer);
     let account = account_at(a, j);
     let Booked::Yes(paid) = accounts::charge(account, bytes) else {
-        return Answer::Refused(12);
+        return Answer::Refused(refused::LIMIT);
     };
     book(a, j, e.payer, paid, i, id, e.charge + bytes)
 }
@@ -306,11 +302,11 @@ pub fn uncharge(a: &mut [u8], id: u64, bytes: u64) -> Answer
     ensures { λ r. ⌜ Serves (uncharge id bytes) (now (a .entry)) r (now (a .exit)) ⌝ }
 {
     let Found::At(i) = area::find(a, id) else {
-        return Answer::Refused(7);
+        return Answer::Refused(refused::MISSING);
     };
     let e = area::entry_at(a, i);
     if bytes > e.charge {
-        return Answer::Refused(11);
+        return Answer::Refused(refused::CHARGE);
     }
     let j = payer_place(a, e.payer);
     let account = account_at(a, j);
@@ -366,24 +362,24 @@ pub fn remove(a: &mut [u8], id: u64) -> Answer
     ensures { λ r. ⌜ Serves (remove id) (now (a .entry)) r (now (a .exit)) ⌝ }
 {
     let Found::At(i) = area::find(a, id) else {
-        return Answer::Refused(7);
+        return Answer::Refused(refused::MISSING);
     };
-    if id == ROOT {
-        return Answer::Refused(9);
+    if id == area::ROOT {
+        return Answer::Refused(refused::ROOT);
     }
     let e = area::entry_at(a, i);
     let j = payer_place(a, e.payer);
     let account = account_at(a, j);
-    if e.kind != BUDGET {
+    if e.kind != Kind::BUDGET_CODE {
         let paid = accounts::credit(account, e.charge);
         return release(a, j, e.payer, paid, i);
     }
     if pays(a, id) {
-        return Answer::Refused(10);
+        return Answer::Refused(refused::PAYS);
     }
     let child = e.account;
     let Booked::Yes(returned) = accounts::give_back(account, child) else {
-        return Answer::Refused(15);
+        return Answer::Refused(refused::RETURN);
     };
     let paid = accounts::credit(returned, e.charge);
     release(a, j, e.payer, paid, i)

@@ -22,6 +22,25 @@ pub enum KindCode {
 }
 
 impl Kind {
+    // The code of each kind, from the first to the last, and the bytes that an object of it is charged.
+    pub const THREAD_CODE: u64 = 1;
+
+    pub const ADDRESS_SPACE_CODE: u64 = 2;
+
+    pub const FRAME_CODE: u64 = 3;
+
+    pub const ENDPOINT_CODE: u64 = 4;
+
+    pub const NOTIFICATION_CODE: u64 = 5;
+
+    pub const BUDGET_CODE: u64 = 6;
+
+    pub const REPLY_CODE: u64 = 7;
+
+    pub const IRQ_CODE: u64 = 8;
+
+    pub const IRQ_CONTROL_CODE: u64 = 9;
+
     pub const THREAD_BYTES: u64 = 33_792;
 
     pub const ADDRESS_SPACE_BYTES: u64 = 16_384;
@@ -44,10 +63,10 @@ impl Kind {
     pub fn is_listed(n: u64) -> bool
         ensures { λ r. ⌜ r ≡ listed n ⌝ }
     {
-        if n < 1 {
+        if n < Kind::THREAD_CODE {
             return false;
         }
-        if n > 9 {
+        if n > Kind::IRQ_CONTROL_CODE {
             return false;
         }
         true
@@ -57,15 +76,15 @@ impl Kind {
         ensures { λ r. ⌜ Named n r ⌝ }
     {
         match n {
-            1 => KindCode::Listed(Kind::Thread),
-            2 => KindCode::Listed(Kind::AddressSpace),
-            3 => KindCode::Listed(Kind::Frame),
-            4 => KindCode::Listed(Kind::Endpoint),
-            5 => KindCode::Listed(Kind::Notification),
-            6 => KindCode::Listed(Kind::Budget),
-            7 => KindCode::Listed(Kind::Reply),
-            8 => KindCode::Listed(Kind::Irq),
-            9 => KindCode::Listed(Kind::IrqControl),
+            Kind::THREAD_CODE => KindCode::Listed(Kind::Thread),
+            Kind::ADDRESS_SPACE_CODE => KindCode::Listed(Kind::AddressSpace),
+            Kind::FRAME_CODE => KindCode::Listed(Kind::Frame),
+            Kind::ENDPOINT_CODE => KindCode::Listed(Kind::Endpoint),
+            Kind::NOTIFICATION_CODE => KindCode::Listed(Kind::Notification),
+            Kind::BUDGET_CODE => KindCode::Listed(Kind::Budget),
+            Kind::REPLY_CODE => KindCode::Listed(Kind::Reply),
+            Kind::IRQ_CODE => KindCode::Listed(Kind::Irq),
+            Kind::IRQ_CONTROL_CODE => KindCode::Listed(Kind::IrqControl),
             _ => KindCode::Unlisted,
         }
     }
@@ -74,15 +93,15 @@ impl Kind {
         ensures { λ r. ⌜ r ≡ code self ⌝ }
     {
         match self {
-            Kind::Thread => 1,
-            Kind::AddressSpace => 2,
-            Kind::Frame => 3,
-            Kind::Endpoint => 4,
-            Kind::Notification => 5,
-            Kind::Budget => 6,
-            Kind::Reply => 7,
-            Kind::Irq => 8,
-            Kind::IrqControl => 9,
+            Kind::Thread => Kind::THREAD_CODE,
+            Kind::AddressSpace => Kind::ADDRESS_SPACE_CODE,
+            Kind::Frame => Kind::FRAME_CODE,
+            Kind::Endpoint => Kind::ENDPOINT_CODE,
+            Kind::Notification => Kind::NOTIFICATION_CODE,
+            Kind::Budget => Kind::BUDGET_CODE,
+            Kind::Reply => Kind::REPLY_CODE,
+            Kind::Irq => Kind::IRQ_CODE,
+            Kind::IrqControl => Kind::IRQ_CONTROL_CODE,
         }
     }
 

@@ -6,9 +6,11 @@ pub mod calls;
 pub mod cpu;
 mod kinds;
 mod opening;
+pub mod refused;
 mod rows;
 mod sound;
 
+pub use area::BYTES;
 use carv_budget::Account;
 pub use kinds::Kind;
 pub use kinds::KindCode;
@@ -37,7 +39,7 @@ pub fn create(area: &mut [u8], kind: u64, payer: u64, backing: bool) -> Answer
     ensures { λ r. ⌜ Answered (create kind payer backing) (now (area .entry)) r (now (area .exit)) ⌝ }
 {
     if !is_sound(area) {
-        return Answer::Refused(1);
+        return Answer::Refused(refused::UNSOUND);
     }
     calls::create(area, kind, payer, backing)
 }
@@ -47,7 +49,7 @@ pub fn insert(area: &mut [u8], kind: u64, payer: u64, bytes: u64) -> Answer
     ensures { λ r. ⌜ Answered (insert kind payer bytes) (now (area .entry)) r (now (area .exit)) ⌝ }
 {
     if !is_sound(area) {
-        return Answer::Refused(1);
+        return Answer::Refused(refused::UNSOUND);
     }
     calls::insert(area, kind, payer, bytes)
 }
@@ -57,7 +59,7 @@ pub fn create_budget(area: &mut [u8], parent: u64, cpu: u64, memory: u64, time: 
     ensures { λ r. ⌜ Answered (create-budget parent cpu memory time) (now (area .entry)) r (now (area .exit)) ⌝ }
 {
     if !is_sound(area) {
-        return Answer::Refused(1);
+        return Answer::Refused(refused::UNSOUND);
     }
     calls::create_budget(area, parent, cpu, memory, time)
 }
@@ -67,7 +69,7 @@ pub fn charge_more(area: &mut [u8], id: u64, bytes: u64) -> Answer
     ensures { λ r. ⌜ Answered (charge-more id bytes) (now (area .entry)) r (now (area .exit)) ⌝ }
 {
     if !is_sound(area) {
-        return Answer::Refused(1);
+        return Answer::Refused(refused::UNSOUND);
     }
     calls::charge_more(area, id, bytes)
 }
@@ -77,7 +79,7 @@ pub fn uncharge(area: &mut [u8], id: u64, bytes: u64) -> Answer
     ensures { λ r. ⌜ Answered (uncharge id bytes) (now (area .entry)) r (now (area .exit)) ⌝ }
 {
     if !is_sound(area) {
-        return Answer::Refused(1);
+        return Answer::Refused(refused::UNSOUND);
     }
     calls::uncharge(area, id, bytes)
 }
@@ -87,7 +89,7 @@ pub fn remove(area: &mut [u8], id: u64) -> Answer
     ensures { λ r. ⌜ Answered (remove id) (now (area .entry)) r (now (area .exit)) ⌝ }
 {
     if !is_sound(area) {
-        return Answer::Refused(1);
+        return Answer::Refused(refused::UNSOUND);
     }
     calls::remove(area, id)
 }
@@ -97,7 +99,7 @@ pub fn refill(area: &mut [u8], id: u64, time: u64) -> Answer
     ensures { λ r. ⌜ Answered (refill id time) (now (area .entry)) r (now (area .exit)) ⌝ }
 {
     if !is_sound(area) {
-        return Answer::Refused(1);
+        return Answer::Refused(refused::UNSOUND);
     }
     calls::refill(area, id, time)
 }
@@ -107,7 +109,7 @@ pub fn charge_cpu(area: &mut [u8], id: u64, ns: u64, time: u64) -> Answer
     ensures { λ r. ⌜ Answered (charge-cpu id ns time) (now (area .entry)) r (now (area .exit)) ⌝ }
 {
     if !is_sound(area) {
-        return Answer::Refused(1);
+        return Answer::Refused(refused::UNSOUND);
     }
     calls::charge_cpu(area, id, ns, time)
 }
@@ -117,7 +119,7 @@ pub fn pays_for_anything(area: &[u8], id: u64) -> Answer
     ensures { λ r. ⌜ Answered (pays-for-anything id) (now (area .entry)) r (now (area .entry)) ⌝ }
 {
     if !is_sound(area) {
-        return Answer::Refused(1);
+        return Answer::Refused(refused::UNSOUND);
     }
     calls::pays_for_anything(area, id)
 }
@@ -127,7 +129,7 @@ pub fn account(area: &[u8], id: u64) -> Answer
     ensures { λ r. ⌜ Answered (read-account id) (now (area .entry)) r (now (area .entry)) ⌝ }
 {
     if !is_sound(area) {
-        return Answer::Refused(1);
+        return Answer::Refused(refused::UNSOUND);
     }
     calls::account(area, id)
 }
@@ -137,7 +139,7 @@ pub fn charge_of(area: &[u8], id: u64) -> Answer
     ensures { λ r. ⌜ Answered (charge-of id) (now (area .entry)) r (now (area .entry)) ⌝ }
 {
     if !is_sound(area) {
-        return Answer::Refused(1);
+        return Answer::Refused(refused::UNSOUND);
     }
     calls::charge_of(area, id)
 }

@@ -3,6 +3,8 @@ use crate::Answer;
 use crate::accounts;
 use crate::accounts::Booked;
 use crate::area;
+use crate::kinds::Kind;
+use crate::refused;
 use crate::rows;
 use carv_budget::Account;
 use carv_objects_spec::Entry;
@@ -10,15 +12,10 @@ ghost use mathlib.Core.Path.{_≡_};
 ghost use mathlib.Core.List.{[], _∷_};
 ghost use lib.ListN.{length};
 ghost use Rattle.carv_area.specs.Stored.{Stored};
-ghost use Rattle.carv_objects.specs.Area.{table, fields, decode, Opened};
+ghost use Rattle.carv_objects.specs.Area.{table, fields, Opened};
 ghost use Rattle.carv_objects.specs.laws.Rows.{row};
 ghost use Rattle.carv_objects.specs.laws.Formed.{Formed};
 ghost use Rattle.carv_objects.specs.laws.Opening.{rooted};
-
-// The code of Kind::Budget, and the id of the root budget.
-const BUDGET: u64 = 6;
-
-const ROOT: u64 = 1;
 
 // The table t with this object alone.
 fn write_only(t: &mut [u8], id: u64, e: Entry)
@@ -38,14 +35,6 @@ fn write_table(a: &mut [u8], id: u64, e: Entry)
     write_only(&mut a[area::TABLE..area::BYTES], id, e)
 }
 
-// The next id.
-fn write_next(a: &mut [u8], n: u64)
-    requires { ⌜ length (now a) ≡ 45_072 ⌝ }
-    ensures { λ _. ⌜ (decode (now (a .exit)) .next ≡ n) × (table (now (a .exit)) ≡ table (now (a .entry))) ⌝ }
-{
-    carv_area::put(&mut a[0..area::TABLE], 0, n)
-}
-
 // The registry with the root budget, which has this account.
 fn start(a: &mut [u8], account: Account)
     requires { ⌜ length (now a) ≡ 45_072 ⌝ }
@@ -53,15 +42,15 @@ fn start(a: &mut [u8], account: Account)
 {
     write_table(
         a,
-        ROOT,
+        area::ROOT,
         Entry {
-            kind: BUDGET,
-            payer: ROOT,
+            kind: Kind::BUDGET_CODE,
+            payer: area::ROOT,
             charge: 0,
             account,
         },
     );
-    write_next(a, ROOT + 1);
+    area::set_next(a, area::ROOT + 1);
 }
 
 // Questions 1, of the length alone, and 2, then the root budget with this share.
@@ -69,10 +58,10 @@ pub fn open(area: &mut [u8], cpu: u64, memory: u64) -> Answer
     ensures { λ r. ⌜ Opened cpu memory (now (area .entry)) r (now (area .exit)) ⌝ }
 {
     if area.len() != area::BYTES {
-        return Answer::Refused(1);
+        return Answer::Refused(refused::UNSOUND);
     }
     let Booked::Yes(account) = accounts::opened(cpu, memory) else {
-        return Answer::Refused(2);
+        return Answer::Refused(refused::SHARE);
     };
     start(area, account);
     Answer::Done

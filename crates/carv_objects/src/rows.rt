@@ -10,22 +10,47 @@ ghost use Rattle.carv_area.specs.Stored.{Stored};
 ghost use Rattle.carv_objects.specs.Area.{fields, row-at, rows-in};
 ghost use Rattle.carv_objects.specs.laws.Rows.{row, set-account, set-row};
 
+// How many words a row has, and which of them is what, counted from the word before the row.
+pub const ROW: usize = 11;
+
+pub const ID: usize = 1;
+
+pub const KIND: usize = 2;
+
+pub const PAYER: usize = 3;
+
+const CHARGE: usize = 4;
+
+const CPU_ALLOWANCE: usize = 5;
+
+const MEMORY_LIMIT: usize = 6;
+
+const PERIOD_START: usize = 7;
+
+const CPU_LEFT: usize = 8;
+
+const CPU_RESERVED: usize = 9;
+
+const MEMORY_USED: usize = 10;
+
+const MEMORY_RESERVED: usize = 11;
+
 // The entry at place i of the table t.
 pub fn read_entry(t: &[u8], i: usize) -> Entry
     requires { ⌜ (i * 11 + 11) * 8 + 8 ≤ length (now t) ⌝ }
     ensures { λ r. ⌜ r ≡ row-at (words (now (t .entry))) i .it ⌝ }
 {
-    let o = i * 11;
-    let kind = carv_area::get(t, o + 2);
-    let payer = carv_area::get(t, o + 3);
-    let charge = carv_area::get(t, o + 4);
-    let cpu_allowance = carv_area::get(t, o + 5);
-    let memory_limit = carv_area::get(t, o + 6);
-    let period_start = carv_area::get(t, o + 7);
-    let cpu_left = carv_area::get(t, o + 8);
-    let cpu_reserved = carv_area::get(t, o + 9);
-    let memory_used = carv_area::get(t, o + 10);
-    let memory_reserved = carv_area::get(t, o + 11);
+    let o = i * ROW;
+    let kind = carv_area::get(t, o + KIND);
+    let payer = carv_area::get(t, o + PAYER);
+    let charge = carv_area::get(t, o + CHARGE);
+    let cpu_allowance = carv_area::get(t, o + CPU_ALLOWANCE);
+    let memory_limit = carv_area::get(t, o + MEMORY_LIMIT);
+    let period_start = carv_area::get(t, o + PERIOD_START);
+    let cpu_left = carv_area::get(t, o + CPU_LEFT);
+    let cpu_reserved = carv_area::get(t, o + CPU_RESERVED);
+    let memory_used = carv_area::get(t, o + MEMORY_USED);
+    let memory_reserved = carv_area::get(t, o + MEMORY_RESERVED);
     Entry {
         kind,
         payer,
@@ -47,14 +72,14 @@ fn write_account(t: &mut [u8], i: usize, a: Account)
     requires { ⌜ (i * 11 + 11) * 8 + 8 ≤ length (now t) ⌝ }
     ensures { λ _. ⌜ words (now (t .exit)) ≡ set-account (words (now (t .entry))) i a ⌝ }
 {
-    let o = i * 11;
-    carv_area::put(t, o + 5, a.cpu_allowance);
-    carv_area::put(t, o + 6, a.memory_limit);
-    carv_area::put(t, o + 7, a.period_start);
-    carv_area::put(t, o + 8, a.cpu_left);
-    carv_area::put(t, o + 9, a.cpu_reserved);
-    carv_area::put(t, o + 10, a.memory_used);
-    carv_area::put(t, o + 11, a.memory_reserved);
+    let o = i * ROW;
+    carv_area::put(t, o + CPU_ALLOWANCE, a.cpu_allowance);
+    carv_area::put(t, o + MEMORY_LIMIT, a.memory_limit);
+    carv_area::put(t, o + PERIOD_START, a.period_start);
+    carv_area::put(t, o + CPU_LEFT, a.cpu_left);
+    carv_area::put(t, o + CPU_RESERVED, a.cpu_reserved);
+    carv_area::put(t, o + MEMORY_USED, a.memory_used);
+    carv_area::put(t, o + MEMORY_RESERVED, a.memory_reserved);
 }
 
 // The entry e under the id at place i of the table t.
@@ -62,12 +87,12 @@ pub fn write_entry(t: &mut [u8], i: usize, id: u64, e: Entry)
     requires { ⌜ (i * 11 + 11) * 8 + 8 ≤ length (now t) ⌝ }
     ensures { λ _. ⌜ words (now (t .exit)) ≡ set-row (words (now (t .entry))) i (row id e) ⌝ }
 {
-    let o = i * 11;
+    let o = i * ROW;
     let account = e.account;
-    carv_area::put(t, o + 1, id);
-    carv_area::put(t, o + 2, e.kind);
-    carv_area::put(t, o + 3, e.payer);
-    carv_area::put(t, o + 4, e.charge);
+    carv_area::put(t, o + ID, id);
+    carv_area::put(t, o + KIND, e.kind);
+    carv_area::put(t, o + PAYER, e.payer);
+    carv_area::put(t, o + CHARGE, e.charge);
     write_account(t, i, account);
 }
 

@@ -1,39 +1,22 @@
 // Question 1: is a lent area of its length, and is the registry in it sound? Any bytes may be asked.
 // One walk over the rows: each row is tested by itself and against the rows before it, and what it takes is taken off its
 // payer's figures. These count down from the stored figure, so that no sum can wrap, and must end at 0.
-// specs/SoundWalk.antt says what the walk knows at each row, and specs/SoundBridge.antt that this is question 1.
+// specs/laws/SoundWalk.antt says what the walk knows at each row, and specs/laws/SoundBridge.antt that this is question 1.
+use crate::area;
+use crate::kinds::Kind;
+use crate::rows;
+use carv_area::Found;
+use carv_objects_spec::Entry;
 ghost use mathlib.Core.Path.{_≡_};
 ghost use Prim.Native.Nat.{_+_, _*_, _≤_, _<_};
 ghost use lib.ListN.{length, getD};
 ghost use Rattle.carv_area.specs.Words.{words};
 ghost use Rattle.carv_area.specs.Zero.{allZero};
-ghost use Rattle.carv_objects.specs.Area.{decode, sound-area};
-ghost use Rattle.carv_objects.specs.laws.SoundWalk.{Tells, entry-at, Plain, Rise, Place, Owner, Front, Walk, Whole, Turned, Took, ReservedFor, SoundTable};
-use crate::kinds::Kind;
-use carv_budget::Account;
-use carv_objects_spec::Entry;
+ghost use Rattle.carv_objects.specs.Area.{sound-area};
+ghost use Rattle.carv_objects.specs.laws.SoundWalk.{Tells, Plain, Rise, Place, Owner, Front, Walk, Whole, Turned, Took, ReservedFor, SoundTable};
 
-// The entry at place i of the table t.
-fn entry_at(t: &[u8], i: usize) -> Entry
-    requires { ⌜ i * 88 + 96 ≤ length (now t) ⌝ }
-    ensures { λ r. ⌜ r ≡ entry-at (words (now (t .entry))) i ⌝ }
-{
-    let o = i * 11;
-    Entry {
-        kind: carv_area::get(t, o + 2),
-        payer: carv_area::get(t, o + 3),
-        charge: carv_area::get(t, o + 4),
-        account: Account {
-            cpu_allowance: carv_area::get(t, o + 5),
-            memory_limit: carv_area::get(t, o + 6),
-            period_start: carv_area::get(t, o + 7),
-            cpu_left: carv_area::get(t, o + 8),
-            cpu_reserved: carv_area::get(t, o + 9),
-            memory_used: carv_area::get(t, o + 10),
-            memory_reserved: carv_area::get(t, o + 11),
-        },
-    }
-}
+// Where an id stands is noted under its rest by this prime.
+const GUESSES: u64 = 509;
 
 // Is an entry in order by itself?
 fn is_plain(e: Entry) -> bool
@@ -46,7 +29,7 @@ fn is_plain(e: Entry) -> bool
     if !a.is_sound() {
         return false;
     }
-    if e.kind != 6 {
+    if e.kind != Kind::BUDGET_CODE {
         if a.cpu_allowance != 0 {
             return false;
         }
@@ -60,76 +43,74 @@ fn is_plain(e: Entry) -> bool
     true
 }
 
-// A place below i whose id is p, or i if there is none. guess is tried first.
-fn place(t: &[u8], i: usize, p: u64, guess: usize) -> usize
+// The place below i whose id is p. guess is tried first.
+fn place(t: &[u8], i: usize, p: u64, guess: usize) -> Found
     requires { ⌜ i * 88 + 8 ≤ length (now t) ⌝ }
     requires { ⌜ Rise (words (now t)) i ⌝ }
     ensures { λ r. ⌜ Place (words (now (t .entry))) i p r ⌝ }
 {
     if guess < i {
-        let x = carv_area::get(t, guess * 11 + 1);
+        let x = carv_area::get(t, guess * rows::ROW + rows::ID);
         if x == p {
-            return guess;
+            return Found::At(guess);
         }
     }
     let mut lo = 0;
     let mut len = i;
     while 1 < len {
         let half = len / 2;
-        let x = carv_area::get(t, (lo + half) * 11 + 1);
+        let x = carv_area::get(t, (lo + half) * rows::ROW + rows::ID);
         if x <= p {
             lo = lo + half;
         }
         len = len - half;
     }
     if lo < i {
-        let x = carv_area::get(t, lo * 11 + 1);
+        let x = carv_area::get(t, lo * rows::ROW + rows::ID);
         if x == p {
-            return lo;
+            return Found::At(lo);
         }
     }
-    i
+    Found::Nothing
 }
 
-// The place of row i's payer, or 512 if row i does not fit the rows before it.
-fn owner(t: &[u8], i: usize, next: u64, guess: usize) -> usize
+// The place of row i's payer, if row i fits the rows before it.
+fn owner(t: &[u8], i: usize, next: u64, guess: usize) -> Found
     requires { ⌜ i * 88 + 96 ≤ length (now t) ⌝ }
-    requires { ⌜ i < 512 ⌝ }
     requires { ⌜ Front (words (now t)) next i ⌝ }
     ensures { λ r. ⌜ Owner (words (now (t .entry))) next i r ⌝ }
 {
-    let o = i * 11;
-    let id = carv_area::get(t, o + 1);
-    let payer = carv_area::get(t, o + 3);
+    let o = i * rows::ROW;
+    let id = carv_area::get(t, o + rows::ID);
+    let payer = carv_area::get(t, o + rows::PAYER);
     if id >= next {
-        return 512;
+        return Found::Nothing;
     }
     if i == 0 {
-        let kind = carv_area::get(t, o + 2);
-        if id != 1 {
-            return 512;
+        let kind = carv_area::get(t, o + rows::KIND);
+        if id != area::ROOT {
+            return Found::Nothing;
         }
-        if payer != 1 {
-            return 512;
+        if payer != area::ROOT {
+            return Found::Nothing;
         }
-        if kind != 6 {
-            return 512;
+        if kind != Kind::BUDGET_CODE {
+            return Found::Nothing;
         }
-        return i;
+        return Found::At(i);
     }
-    let before = carv_area::get(t, (i - 1) * 11 + 1);
+    let before = carv_area::get(t, (i - 1) * rows::ROW + rows::ID);
     if id <= before {
-        return 512;
+        return Found::Nothing;
     }
-    let j = place(t, i, payer, guess);
-    if j >= i {
-        return 512;
+    let Found::At(j) = place(t, i, payer, guess) else {
+        return Found::Nothing;
+    };
+    let kind = carv_area::get(t, j * rows::ROW + rows::KIND);
+    if kind != Kind::BUDGET_CODE {
+        return Found::Nothing;
     }
-    let kind = carv_area::get(t, j * 11 + 2);
-    if kind != 6 {
-        return 512;
-    }
-    j
+    Found::At(j)
 }
 
 // x is taken off s[j], if it can be.
@@ -171,14 +152,13 @@ fn turn(
     requires { ⌜ Walk (words (now t)) next i (now used) (now memory) (now cpu) ⌝ }
     ensures { λ r. ⌜ Turned (words (now (t .entry))) next i r (now (used .exit)) (now (memory .exit)) (now (cpu .exit)) ⌝ }
 {
-    let e = entry_at(t, i);
+    let e = rows::read_entry(t, i);
     if !is_plain(e) {
         return false;
     }
-    let j = owner(t, i, next, guess);
-    if j >= 512 {
+    let Found::At(j) = owner(t, i, next, guess) else {
         return false;
-    }
+    };
     let a = e.account;
     used[i] = a.memory_used;
     memory[i] = a.memory_reserved;
@@ -217,20 +197,20 @@ fn whole(t: &[u8], n: usize, next: u64) -> bool
     if n == 0 {
         return false;
     }
-    let mut used = [0u64; 512];
-    let mut memory = [0u64; 512];
-    let mut cpu = [0u64; 512];
-    let mut places = [0usize; 512];
+    let mut used = [0u64; area::PLACES];
+    let mut memory = [0u64; area::PLACES];
+    let mut cpu = [0u64; area::PLACES];
+    let mut places = [0usize; area::PLACES];
     let mut i = 0;
     while i < n {
-        let payer = carv_area::get(t, i * 11 + 3);
-        let q = (payer % 509) as usize;
+        let payer = carv_area::get(t, i * rows::ROW + rows::PAYER);
+        let q = (payer % GUESSES) as usize;
         let guess = places[q];
         if !turn(t, i, next, &mut used, &mut memory, &mut cpu, guess) {
             return false;
         }
-        let id = carv_area::get(t, i * 11 + 1);
-        let q = (id % 509) as usize;
+        let id = carv_area::get(t, i * rows::ROW + rows::ID);
+        let q = (id % GUESSES) as usize;
         places[q] = i;
         i += 1;
     }
@@ -248,32 +228,23 @@ fn table_is_sound(t: &[u8], next: u64) -> bool
     requires { ⌜ length (now t) ≡ 45_064 ⌝ }
     ensures { λ r. ⌜ Tells r (SoundTable (words (now (t .entry))) next) ⌝ }
 {
-    let n = carv_area::get(t, 0);
-    if n > 512 {
+    let n = carv_area::get(t, 0) as usize;
+    if n > area::PLACES {
         return false;
     }
-    let n = n as usize;
-    if !carv_area::zero_from(t, n * 11 + 1) {
+    if !carv_area::zero_from(t, n * rows::ROW + rows::ID) {
         return false;
     }
     whole(t, n, next)
-}
-
-// The next id, in the area's first word.
-fn next_id(area: &[u8]) -> u64
-    requires { ⌜ 8 ≤ length (now area) ⌝ }
-    ensures { λ r. ⌜ r ≡ decode (now (area .entry)) .next ⌝ }
-{
-    carv_area::get(&area[0..8], 0)
 }
 
 // Question 1.
 pub fn is_sound(area: &[u8]) -> bool
     ensures { λ r. ⌜ r ≡ sound-area (now (area .entry)) ⌝ }
 {
-    if area.len() != 45_072 {
+    if area.len() != area::BYTES {
         return false;
     }
-    let next = next_id(area);
-    table_is_sound(&area[8..45_072], next)
+    let next = area::next_id(area);
+    table_is_sound(&area[area::TABLE..area::BYTES], next)
 }

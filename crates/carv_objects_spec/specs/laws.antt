@@ -1,5 +1,6 @@
--- What is proved of the definitions. Questions: each question of each call. Demand1: what a refusal leaves. Kept: calls keep soundness, which SoundFacts has as facts. Refines, Demand2: the
--- calls, and lists of them, are the Rust's. History: the book's figures are the lines. Edges: document 01's marked cases. The others serve these.
+-- What is proved of the definitions. Questions: each question of each call. Demand1: what a refusal leaves. Kept: calls keep soundness, which SoundFacts has as facts.
+-- Refines, Demand2: the calls, and lists of them, are the Rust's. Panics: the Rust doesn't. History: the book's figures are the lines; Sentences says it field by field.
+-- Added, Limits, Edges: which refusals are added, codes and limits, and document 01's marked cases, written out. The others serve these.
 pub mod SoundFacts
 pub mod SoundLaws
 pub mod Steps
@@ -7,7 +8,10 @@ pub mod Kept
 pub mod Refines
 pub mod History
 pub mod Demand1
+pub mod Sentences
 pub mod Demand2
+pub mod Added
+pub mod Limits
 pub mod Questions
 pub mod Edges
 pub mod Asked

@@ -19,7 +19,7 @@ ghost use Rattle.carv_scheduler.specs.laws.RowWords.{with-state};
 ghost use Rattle.carv_scheduler.specs.laws.AreaSteps.{with-head, with-threads, with-queue, Placed, New};
 
 // Where the parts start, behind the registry, and where the last one ends.
-pub const HEAD: usize = 45_072;
+pub const HEAD: usize = carv_objects::BYTES;
 
 pub const THREADS: usize = 45_088;
 
@@ -29,27 +29,32 @@ pub const EXITS: usize = 67_624;
 
 pub const BYTES: usize = 68_144;
 
+// How many threads there can be, and how many of them in the queue, where idle never is.
+pub const PLACES: usize = 128;
+
+pub const QUEUE_PLACES: usize = PLACES - 1;
+
 // The words of a record that are read one by one, from its id on.
-pub const STATE: usize = 1;
+pub const STATE: usize = rows::STATE - rows::ID;
 
-pub const WAIT: usize = 2;
+pub const WAIT: usize = rows::WAIT - rows::ID;
 
-pub const WAIT_NUMBER: usize = 3;
+pub const WAIT_NUMBER: usize = rows::WAIT_NUMBER - rows::ID;
 
-pub const PAYER: usize = 4;
+pub const PAYER: usize = rows::BUDGET - rows::ID;
 
-pub const PAYER_ID: usize = 5;
+pub const PAYER_ID: usize = rows::BUDGET_ID - rows::ID;
 
-pub const SPACE: usize = 6;
+pub const SPACE: usize = rows::SPACES - rows::ID;
 
-pub const ROOT: usize = 9;
+pub const ROOT: usize = rows::ROOT - rows::ID;
 
 // The current thread.
 pub fn current(a: &[u8]) -> u64
-    requires { ⌜ WellFormed (now a) ⌝ }
+    requires { ⌜ length (now a) ≡ 68_144 ⌝ }
     ensures { λ r. ⌜ r ≡ decode (now (a .entry)) .current ⌝ }
 {
-    carv_area::get(&a[HEAD..THREADS], 0)
+    carv_area::get(&a[HEAD..THREADS], rows::CURRENT)
 }
 
 // How many context switches there were.
@@ -57,7 +62,7 @@ pub fn switches(a: &[u8]) -> u64
     requires { ⌜ WellFormed (now a) ⌝ }
     ensures { λ r. ⌜ r ≡ decode (now (a .entry)) .switches ⌝ }
 {
-    carv_area::get(&a[HEAD..THREADS], 1)
+    carv_area::get(&a[HEAD..THREADS], rows::SWITCHES)
 }
 
 // Another current thread and switch count.
@@ -98,7 +103,7 @@ pub fn thread_id(a: &[u8], i: usize) -> u64
     requires { ⌜ i < length (decode (now a) .threads) ⌝ }
     ensures { λ r. ⌜ r ≡ getD (decode (now (a .entry)) .threads) i no-row .id ⌝ }
 {
-    carv_area::get(&a[THREADS..QUEUE], i * rows::ROW + 1)
+    carv_area::get(&a[THREADS..QUEUE], i * rows::ROW + rows::ID)
 }
 
 // The record of the thread at place i.
@@ -125,7 +130,7 @@ pub fn thread_word(a: &[u8], i: usize, c: usize) -> u64
     requires { ⌜ (i < length (decode (now a) .threads)) × (c < 21) ⌝ }
     ensures { λ r. ⌜ r ≡ getD (thread-fields (getD (decode (now (a .entry)) .threads) i no-row)) c 0 ⌝ }
 {
-    carv_area::get(&a[THREADS..QUEUE], i * rows::ROW + 1 + c)
+    carv_area::get(&a[THREADS..QUEUE], i * rows::ROW + rows::ID + c)
 }
 
 // The thread at place i has this state and wait.

@@ -2,12 +2,16 @@
 use crate::Answer;
 use crate::area;
 use crate::numbers::BLOCKED;
+use crate::numbers::FIRST;
 use crate::numbers::IDLE;
 use crate::numbers::INACTIVE;
 use crate::numbers::READY;
 use crate::numbers::RUNNING;
+use crate::numbers::SEND;
+use crate::numbers::SLEEP;
 use crate::rows;
 use carv_area::Found;
+use carv_objects::refused;
 use carv_scheduler_spec::BudgetId;
 use carv_scheduler_spec::Context;
 use carv_scheduler_spec::Spaces;
@@ -30,10 +34,10 @@ ghost use Rattle.carv_scheduler.specs.laws.Formed.{WellFormed, Leaves};
 pub fn is_wait_listed(kind: u64) -> bool
     ensures { λ r. ⌜ r ≡ wait-listed kind ⌝ }
 {
-    if kind < 1 {
+    if kind < SEND {
         return false;
     }
-    if kind > 5 {
+    if kind > SLEEP {
         return false;
     }
     true
@@ -55,19 +59,19 @@ pub fn create_user_thread(a: &mut [u8], id: u64, budget: u64, stack: bool) -> An
     ensures { λ r. ⌜ Serves (create-user-thread id budget stack) (now (a .entry)) r (now (a .exit)) × Plain r ⌝ }
 {
     if has_thread(a, id) {
-        return Answer::Refused(5);
+        return Answer::Refused(refused::ID);
     }
-    if id == 0 {
-        return Answer::Refused(5);
+    if id == FIRST {
+        return Answer::Refused(refused::ID);
     }
     if id == IDLE {
-        return Answer::Refused(5);
+        return Answer::Refused(refused::ID);
     }
-    if area::thread_count(a) >= 128 {
-        return Answer::Refused(6);
+    if area::thread_count(a) >= area::PLACES {
+        return Answer::Refused(refused::FULL);
     }
     if !stack {
-        return Answer::Refused(14);
+        return Answer::Refused(refused::BACKING);
     }
     area::insert_thread(
         a,
@@ -93,11 +97,11 @@ pub fn start(a: &mut [u8], id: u64, space: u64, cspace: u64, root: u64, context:
     ensures { λ r. ⌜ Serves (start id space cspace root context) (now (a .entry)) r (now (a .exit)) ⌝ }
 {
     let Found::At(i) = area::find_thread(a, id) else {
-        return Answer::Refused(7);
+        return Answer::Refused(refused::MISSING);
     };
     let t = area::thread_at(a, i);
     if t.state != INACTIVE {
-        return Answer::Refused(8);
+        return Answer::Refused(refused::STATE);
     }
     let budget = t.budget;
     let results = t.results;
@@ -107,7 +111,7 @@ pub fn start(a: &mut [u8], id: u64, space: u64, cspace: u64, root: u64, context:
         id,
         Thread {
             state: READY,
-            wait: Wait { kind: 0, number: 0 },
+            wait: rows::NO_WAIT,
             budget,
             spaces: Spaces {
                 is: 1,
@@ -140,15 +144,15 @@ pub fn block_current(a: &mut [u8], kind: u64, number: u64) -> Answer
     ensures { λ r. ⌜ Serves (block-current kind number) (now (a .entry)) r (now (a .exit)) ⌝ }
 {
     if !is_wait_listed(kind) {
-        return Answer::Refused(4);
+        return Answer::Refused(refused::CODE);
     }
     let i = current_place(a);
     let t = area::thread_at(a, i);
     if t.state != RUNNING {
-        return Answer::Refused(8);
+        return Answer::Refused(refused::STATE);
     }
     if area::current(a) == IDLE {
-        return Answer::Refused(8);
+        return Answer::Refused(refused::STATE);
     }
     area::set_state(a, i, BLOCKED, Wait { kind, number });
     Answer::Done
@@ -179,7 +183,7 @@ pub fn is_blocked_on(a: &[u8], id: u64, kind: u64, number: u64) -> Answer
     ensures { λ r. ⌜ Serves (is-blocked-on id kind number) (now (a .entry)) r (now (a .entry)) ⌝ }
 {
     if !is_wait_listed(kind) {
-        return Answer::Refused(4);
+        return Answer::Refused(refused::CODE);
     }
     let Found::At(i) = area::find_thread(a, id) else {
         return Answer::NotBlocked;
@@ -196,7 +200,7 @@ pub fn read_thread(a: &[u8], id: u64) -> Answer
     ensures { λ r. ⌜ Serves (read-thread id) (now (a .entry)) r (now (a .entry)) ⌝ }
 {
     let Found::At(i) = area::find_thread(a, id) else {
-        return Answer::Refused(7);
+        return Answer::Refused(refused::MISSING);
     };
     let t = area::thread_at(a, i);
     Answer::Record(t)

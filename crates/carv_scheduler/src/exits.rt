@@ -1,4 +1,4 @@
-// The exit log: ends of threads from the oldest, in rows of 2 words. It holds 32.
+// The exit log: ends of threads from the oldest, in rows of 2 words.
 use crate::Answer;
 use crate::area;
 use carv_scheduler_spec::Exit;
@@ -16,13 +16,23 @@ ghost use Rattle.carv_scheduler.specs.laws.Formed.{WellFormed, Leaves};
 ghost use Rattle.carv_scheduler.specs.laws.ExitSteps.{exit, with-exits, spared};
 ghost use Rattle.carv_scheduler.specs.ExitRun.{cause-of};
 
+// How many exits the log holds.
+pub const PLACES: usize = 32;
+
+// How many words a row has, and which of them is what, counted from the word before the row.
+pub const ROW: usize = 2;
+
+pub const THREAD: usize = 1;
+
+pub const CAUSE: usize = 2;
+
 // The exit at place i of the log t.
 fn read_exit(t: &[u8], i: usize) -> Exit
     requires { ⌜ (i * 2 + 2) * 8 + 8 ≤ length (now t) ⌝ }
     ensures { λ r. ⌜ r ≡ exit-at (words (now (t .entry))) i ⌝ }
 {
-    let thread = carv_area::get(t, i * 2 + 1);
-    let cause = carv_area::get(t, i * 2 + 2);
+    let thread = carv_area::get(t, i * ROW + THREAD);
+    let cause = carv_area::get(t, i * ROW + CAUSE);
     Exit { thread, cause }
 }
 
@@ -33,8 +43,8 @@ fn append_exit(t: &mut [u8], thread: u64, cause: u64)
     ensures { λ _. ⌜ Stored exit-fields 2 (now (t .exit)) (exits-in (words (now (t .entry))) ++ (exit thread cause ∷ [])) ⌝ }
 {
     let n = carv_area::get(t, 0) as usize;
-    carv_area::put(t, n * 2 + 1, thread);
-    carv_area::put(t, n * 2 + 2, cause);
+    carv_area::put(t, n * ROW + THREAD, thread);
+    carv_area::put(t, n * ROW + CAUSE, cause);
     carv_area::put(t, 0, (n + 1) as u64);
 }
 
@@ -61,7 +71,7 @@ fn drop_oldest(a: &mut [u8])
     requires { ⌜ 0 < length (decode (now a) .exits) ⌝ }
     ensures { λ _. ⌜ Leaves (now (a .exit)) (with-exits (drop 1 (decode (now (a .entry)) .exits)) (decode (now (a .entry)))) ⌝ }
 {
-    carv_area::remove_row(&mut a[area::EXITS..area::BYTES], 2, 0)
+    carv_area::remove_row(&mut a[area::EXITS..area::BYTES], ROW, 0)
 }
 
 // An exit behind the others.
@@ -78,7 +88,7 @@ fn make_room(a: &mut [u8])
     requires { ⌜ WellFormed (now a) ⌝ }
     ensures { λ _. ⌜ Leaves (now (a .exit)) (with-exits (spared (decode (now (a .entry)) .exits)) (decode (now (a .entry)))) ⌝ }
 {
-    if exit_count(a) == 32 {
+    if exit_count(a) == PLACES {
         drop_oldest(a)
     }
 }

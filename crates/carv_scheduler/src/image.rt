@@ -1,4 +1,6 @@
 // The register image of a new thread, in 512 lent bytes.
+use crate::numbers::ACCEPTED;
+use carv_objects::refused;
 ghost use mathlib.Core.Path.{_≡_};
 ghost use lib.ListN.{length, replicate};
 ghost use Rattle.carv_scheduler.specs.Image.{register-image, Filled};
@@ -17,6 +19,7 @@ fn clear(image: &mut [u8])
     }
 }
 
+// The x87 control word is 0x037f, MXCSR 0x1f80 and its mask 0xffbf, the least byte first.
 pub fn fill_image(image: &mut [u8])
     requires { ⌜ length (now image) ≡ 512 ⌝ }
     ensures { λ _. ⌜ now (image .exit) ≡ register-image ⌝ }
@@ -35,8 +38,8 @@ pub fn write_image(image: &mut [u8]) -> u64
     ensures { λ r. ⌜ Filled (now (image .entry)) r (now (image .exit)) ⌝ }
 {
     if image.len() != BYTES {
-        return 1;
+        return refused::UNSOUND;
     }
     fill_image(image);
-    0
+    ACCEPTED
 }

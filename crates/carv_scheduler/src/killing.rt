@@ -4,10 +4,13 @@ use crate::area;
 use crate::exits;
 use crate::numbers::BLOCKED;
 use crate::numbers::DEAD;
+use crate::numbers::DESTROYED;
+use crate::numbers::FAULTED;
 use crate::numbers::IDLE;
+use crate::rows;
 use carv_area::Found;
+use carv_objects::refused;
 use carv_scheduler_spec::Thread;
-use carv_scheduler_spec::Wait;
 ghost use mathlib.Core.Path.{_≡_};
 ghost use mathlib.Core.Bool.{true};
 ghost use Rattle.carv_area.specs.Lookup.{Here};
@@ -25,10 +28,10 @@ ghost use Rattle.carv_scheduler.specs.laws.KillSteps.{wait-answer};
 pub fn is_cause(cause: u64) -> bool
     ensures { λ r. ⌜ r ≡ cause-listed cause ⌝ }
 {
-    if cause < 1 {
+    if cause < DESTROYED {
         return false;
     }
-    if cause > 2 {
+    if cause > FAULTED {
         return false;
     }
     true
@@ -70,7 +73,7 @@ fn end_thread(a: &mut [u8], i: usize, id: u64)
     ensures { λ _. ⌜ Leaves (now (a .exit)) (with-threads (killed id (decode (now (a .entry)))) (decode (now (a .entry)))) ⌝ }
 {
     if id == area::current(a) {
-        return area::set_state(a, i, DEAD, Wait { kind: 0, number: 0 });
+        return area::set_state(a, i, DEAD, rows::NO_WAIT);
     }
     area::remove_thread(a, i)
 }
@@ -92,13 +95,13 @@ pub fn kill(a: &mut [u8], id: u64, cause: u64) -> Answer
     ensures { λ r. ⌜ Serves (kill id cause) (now (a .entry)) r (now (a .exit)) ⌝ }
 {
     if !is_cause(cause) {
-        return Answer::Refused(4);
+        return Answer::Refused(refused::CODE);
     }
     if id == IDLE {
-        return Answer::Refused(5);
+        return Answer::Refused(refused::ID);
     }
     let Found::At(i) = area::find_thread(a, id) else {
-        return Answer::Refused(7);
+        return Answer::Refused(refused::MISSING);
     };
     let t = area::thread_at(a, i);
     end_thread(a, i, id);

@@ -13,12 +13,14 @@ mod rows;
 mod sound;
 mod ticking;
 
+use carv_objects::refused;
 use carv_scheduler_spec::Context;
 use carv_scheduler_spec::Results;
 use carv_scheduler_spec::Thread;
 use carv_scheduler_spec::Wait;
 pub use exits::exit_in;
 pub use image::write_image;
+pub use numbers::ACCEPTED;
 pub use opening::open;
 pub use sound::is_sound;
 ghost use mathlib.Core.Path.{_≡_};
@@ -72,7 +74,7 @@ fn created(area: &mut [u8], id: u64, budget: u64, stack: bool) -> Answer
     ensures { λ r. ⌜ Answered (create-user-thread id budget stack) (now (area .entry)) r (now (area .exit)) × Plain r ⌝ }
 {
     if !is_sound(area) {
-        return Answer::Refused(1);
+        return Answer::Refused(refused::UNSOUND);
     }
     calls::create_user_thread(area, id, budget, stack)
 }
@@ -88,7 +90,7 @@ pub fn create_user_thread(
     ensures { λ r. ⌜ Created (create-user-thread id budget stack) (now (area .entry)) (now (image .entry)) r (now (area .exit)) (now (image .exit)) ⌝ }
 {
     if image.len() != image::BYTES {
-        return Answer::Refused(1);
+        return Answer::Refused(refused::UNSOUND);
     }
     let answer = created(area, id, budget, stack);
     if is_done(answer) {
@@ -98,13 +100,14 @@ pub fn create_user_thread(
 }
 
 // The calls, each with question 1 in front.
+// Written by tools/entries.py from its list of calls; what stands below this line is replaced.
 
 // A new object of this kind.
 pub fn create(area: &mut [u8], kind: u64, payer: u64, backing: bool) -> Answer
     ensures { λ r. ⌜ Answered (by-registry (create kind payer backing)) (now (area .entry)) r (now (area .exit)) ⌝ }
 {
     if !is_sound(area) {
-        return Answer::Refused(1);
+        return Answer::Refused(refused::UNSOUND);
     }
     let answer = registry::create(area, kind, payer, backing);
     Answer::Registry(answer)
@@ -115,7 +118,7 @@ pub fn insert(area: &mut [u8], kind: u64, payer: u64, bytes: u64) -> Answer
     ensures { λ r. ⌜ Answered (by-registry (insert kind payer bytes)) (now (area .entry)) r (now (area .exit)) ⌝ }
 {
     if !is_sound(area) {
-        return Answer::Refused(1);
+        return Answer::Refused(refused::UNSOUND);
     }
     let answer = registry::insert(area, kind, payer, bytes);
     Answer::Registry(answer)
@@ -126,7 +129,7 @@ pub fn create_budget(area: &mut [u8], parent: u64, cpu: u64, memory: u64, time: 
     ensures { λ r. ⌜ Answered (by-registry (create-budget parent cpu memory time)) (now (area .entry)) r (now (area .exit)) ⌝ }
 {
     if !is_sound(area) {
-        return Answer::Refused(1);
+        return Answer::Refused(refused::UNSOUND);
     }
     let answer = registry::create_budget(area, parent, cpu, memory, time);
     Answer::Registry(answer)
@@ -137,7 +140,7 @@ pub fn charge_more(area: &mut [u8], id: u64, bytes: u64) -> Answer
     ensures { λ r. ⌜ Answered (by-registry (charge-more id bytes)) (now (area .entry)) r (now (area .exit)) ⌝ }
 {
     if !is_sound(area) {
-        return Answer::Refused(1);
+        return Answer::Refused(refused::UNSOUND);
     }
     let answer = registry::charge_more(area, id, bytes);
     Answer::Registry(answer)
@@ -148,7 +151,7 @@ pub fn uncharge(area: &mut [u8], id: u64, bytes: u64) -> Answer
     ensures { λ r. ⌜ Answered (by-registry (uncharge id bytes)) (now (area .entry)) r (now (area .exit)) ⌝ }
 {
     if !is_sound(area) {
-        return Answer::Refused(1);
+        return Answer::Refused(refused::UNSOUND);
     }
     let answer = registry::uncharge(area, id, bytes);
     Answer::Registry(answer)
@@ -159,7 +162,7 @@ pub fn remove(area: &mut [u8], id: u64) -> Answer
     ensures { λ r. ⌜ Answered (by-registry (remove id)) (now (area .entry)) r (now (area .exit)) ⌝ }
 {
     if !is_sound(area) {
-        return Answer::Refused(1);
+        return Answer::Refused(refused::UNSOUND);
     }
     let answer = registry::remove(area, id);
     Answer::Registry(answer)
@@ -170,7 +173,7 @@ pub fn refill(area: &mut [u8], id: u64, time: u64) -> Answer
     ensures { λ r. ⌜ Answered (by-registry (refill id time)) (now (area .entry)) r (now (area .exit)) ⌝ }
 {
     if !is_sound(area) {
-        return Answer::Refused(1);
+        return Answer::Refused(refused::UNSOUND);
     }
     let answer = registry::refill(area, id, time);
     Answer::Registry(answer)
@@ -181,7 +184,7 @@ pub fn charge_cpu(area: &mut [u8], id: u64, ns: u64, time: u64) -> Answer
     ensures { λ r. ⌜ Answered (by-registry (charge-cpu id ns time)) (now (area .entry)) r (now (area .exit)) ⌝ }
 {
     if !is_sound(area) {
-        return Answer::Refused(1);
+        return Answer::Refused(refused::UNSOUND);
     }
     let answer = registry::charge_cpu(area, id, ns, time);
     Answer::Registry(answer)
@@ -192,7 +195,7 @@ pub fn pays_for_anything(area: &[u8], id: u64) -> Answer
     ensures { λ r. ⌜ Answered (by-registry (pays-for-anything id)) (now (area .entry)) r (now (area .entry)) ⌝ }
 {
     if !is_sound(area) {
-        return Answer::Refused(1);
+        return Answer::Refused(refused::UNSOUND);
     }
     let answer = registry::pays_for_anything(area, id);
     Answer::Registry(answer)
@@ -203,7 +206,7 @@ pub fn account(area: &[u8], id: u64) -> Answer
     ensures { λ r. ⌜ Answered (by-registry (read-account id)) (now (area .entry)) r (now (area .entry)) ⌝ }
 {
     if !is_sound(area) {
-        return Answer::Refused(1);
+        return Answer::Refused(refused::UNSOUND);
     }
     let answer = registry::account(area, id);
     Answer::Registry(answer)
@@ -214,7 +217,7 @@ pub fn charge_of(area: &[u8], id: u64) -> Answer
     ensures { λ r. ⌜ Answered (by-registry (charge-of id)) (now (area .entry)) r (now (area .entry)) ⌝ }
 {
     if !is_sound(area) {
-        return Answer::Refused(1);
+        return Answer::Refused(refused::UNSOUND);
     }
     let answer = registry::charge_of(area, id);
     Answer::Registry(answer)
@@ -232,7 +235,7 @@ pub fn start(
     ensures { λ r. ⌜ Answered (start id space cspace root context) (now (area .entry)) r (now (area .exit)) ⌝ }
 {
     if !is_sound(area) {
-        return Answer::Refused(1);
+        return Answer::Refused(refused::UNSOUND);
     }
     calls::start(area, id, space, cspace, root, context)
 }
@@ -242,7 +245,7 @@ pub fn block_current(area: &mut [u8], kind: u64, number: u64) -> Answer
     ensures { λ r. ⌜ Answered (block-current kind number) (now (area .entry)) r (now (area .exit)) ⌝ }
 {
     if !is_sound(area) {
-        return Answer::Refused(1);
+        return Answer::Refused(refused::UNSOUND);
     }
     calls::block_current(area, kind, number)
 }
@@ -252,7 +255,7 @@ pub fn wake(area: &mut [u8], id: u64, results: Results) -> Answer
     ensures { λ r. ⌜ Answered (wake id results) (now (area .entry)) r (now (area .exit)) ⌝ }
 {
     if !is_sound(area) {
-        return Answer::Refused(1);
+        return Answer::Refused(refused::UNSOUND);
     }
     ticking::wake(area, id, results)
 }
@@ -262,7 +265,7 @@ pub fn is_blocked_on(area: &[u8], id: u64, kind: u64, number: u64) -> Answer
     ensures { λ r. ⌜ Answered (is-blocked-on id kind number) (now (area .entry)) r (now (area .entry)) ⌝ }
 {
     if !is_sound(area) {
-        return Answer::Refused(1);
+        return Answer::Refused(refused::UNSOUND);
     }
     calls::is_blocked_on(area, id, kind, number)
 }
@@ -272,7 +275,7 @@ pub fn kill(area: &mut [u8], id: u64, cause: u64) -> Answer
     ensures { λ r. ⌜ Answered (kill id cause) (now (area .entry)) r (now (area .exit)) ⌝ }
 {
     if !is_sound(area) {
-        return Answer::Refused(1);
+        return Answer::Refused(refused::UNSOUND);
     }
     killing::kill(area, id, cause)
 }
@@ -282,7 +285,7 @@ pub fn tick(area: &mut [u8], n: u64) -> Answer
     ensures { λ r. ⌜ Answered (tick n) (now (area .entry)) r (now (area .exit)) ⌝ }
 {
     if !is_sound(area) {
-        return Answer::Refused(1);
+        return Answer::Refused(refused::UNSOUND);
     }
     ticking::tick(area, n)
 }
@@ -292,7 +295,7 @@ pub fn plan(area: &mut [u8], n: u64) -> Answer
     ensures { λ r. ⌜ Answered (plan n) (now (area .entry)) r (now (area .exit)) ⌝ }
 {
     if !is_sound(area) {
-        return Answer::Refused(1);
+        return Answer::Refused(refused::UNSOUND);
     }
     planning::plan(area, n)
 }
@@ -302,7 +305,7 @@ pub fn read_thread(area: &[u8], id: u64) -> Answer
     ensures { λ r. ⌜ Answered (read-thread id) (now (area .entry)) r (now (area .entry)) ⌝ }
 {
     if !is_sound(area) {
-        return Answer::Refused(1);
+        return Answer::Refused(refused::UNSOUND);
     }
     calls::read_thread(area, id)
 }
@@ -312,7 +315,7 @@ pub fn current(area: &[u8]) -> Answer
     ensures { λ r. ⌜ Answered read-current (now (area .entry)) r (now (area .entry)) ⌝ }
 {
     if !is_sound(area) {
-        return Answer::Refused(1);
+        return Answer::Refused(refused::UNSOUND);
     }
     calls::current(area)
 }
@@ -322,7 +325,7 @@ pub fn switches(area: &[u8]) -> Answer
     ensures { λ r. ⌜ Answered read-switches (now (area .entry)) r (now (area .entry)) ⌝ }
 {
     if !is_sound(area) {
-        return Answer::Refused(1);
+        return Answer::Refused(refused::UNSOUND);
     }
     calls::switches(area)
 }
@@ -332,7 +335,7 @@ pub fn exit_of(area: &[u8], id: u64) -> Answer
     ensures { λ r. ⌜ Answered (exit-of id) (now (area .entry)) r (now (area .entry)) ⌝ }
 {
     if !is_sound(area) {
-        return Answer::Refused(1);
+        return Answer::Refused(refused::UNSOUND);
     }
     exits::exit_of(area, id)
 }

@@ -7,8 +7,9 @@ use crate::numbers::LAST_TICK;
 use crate::numbers::READY;
 use crate::numbers::RUNNING;
 use crate::numbers::TICK;
+use crate::rows;
 use carv_area::Found;
-use carv_scheduler_spec::Wait;
+use carv_objects::refused;
 ghost use mathlib.Core.Path.{_≡_};
 ghost use mathlib.Core.Bool.{true};
 ghost use Prim.Native.Nat.{_+_, _%_, _^_, _<_};
@@ -76,7 +77,7 @@ fn guess_behind(at: Found) -> usize
     let Found::At(i) = at else {
         return 0;
     };
-    if i < 128 {
+    if i < area::PLACES {
         return i + 1;
     }
     0
@@ -138,7 +139,7 @@ fn put_back(a: &mut [u8], old: u64) -> bool
     if old == IDLE {
         return false;
     }
-    area::set_state(a, i, READY, Wait { kind: 0, number: 0 });
+    area::set_state(a, i, READY, rows::NO_WAIT);
     area::queue_push(a, old);
     false
 }
@@ -169,7 +170,7 @@ fn run(a: &mut [u8], id: u64, at: Found)
     ensures { λ _. ⌜ Runs id (now (a .entry)) (now (a .exit)) ⌝ }
 {
     match at {
-        Found::At(i) => area::set_state(a, i, RUNNING, Wait { kind: 0, number: 0 }),
+        Found::At(i) => area::set_state(a, i, RUNNING, rows::NO_WAIT),
         Found::Nothing => {}
     }
 }
@@ -222,7 +223,7 @@ pub fn plan(a: &mut [u8], n: u64) -> Answer
     ensures { λ r. ⌜ Serves (plan n) (now (a .entry)) r (now (a .exit)) ⌝ }
 {
     if n > LAST_TICK {
-        return Answer::Refused(3);
+        return Answer::Refused(refused::TICK);
     }
     let time = n * TICK;
     let old = area::current(a);

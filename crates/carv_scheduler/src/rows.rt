@@ -1,4 +1,4 @@
-// The thread table: one thread record in each row of 21 words.
+// The thread table: one thread record in each row of 21 words; and the two words of the head.
 use crate::numbers::READY;
 use carv_scheduler_spec::BudgetId;
 use carv_scheduler_spec::Context;
@@ -15,8 +15,69 @@ ghost use Rattle.carv_scheduler_spec.specs.Scheduler.{fresh};
 ghost use Rattle.carv_scheduler.specs.Area.{wait-at, budget-id-at, spaces-at, context-at, results-at, thread-at};
 ghost use Rattle.carv_scheduler.specs.laws.Rows.{row, set-state, set-start, set-spaces, set-context, set-results, set-ticks, set-end, set-woken, set-thread};
 
-// How many words a row has.
+// How many words a row has, and which of them is what, counted from the word before the row. The first word of a part bears its name.
 pub const ROW: usize = 21;
+
+pub const ID: usize = 1;
+
+pub const STATE: usize = 2;
+
+pub const WAIT: usize = 3;
+
+pub const WAIT_NUMBER: usize = WAIT + 1;
+
+pub const BUDGET: usize = 5;
+
+pub const BUDGET_ID: usize = BUDGET + 1;
+
+pub const SPACES: usize = 7;
+
+const SPACE: usize = SPACES + 1;
+
+const CSPACE: usize = SPACES + 2;
+
+pub const ROOT: usize = SPACES + 3;
+
+const CONTEXT: usize = 11;
+
+const RSP: usize = CONTEXT + 1;
+
+const RFLAGS: usize = CONTEXT + 2;
+
+const RDI: usize = CONTEXT + 3;
+
+const RSI: usize = CONTEXT + 4;
+
+const CS: usize = CONTEXT + 5;
+
+const SS: usize = CONTEXT + 6;
+
+const RESULTS: usize = 18;
+
+const SECOND: usize = RESULTS + 1;
+
+const THIRD: usize = RESULTS + 2;
+
+const TICKS: usize = 21;
+
+// The words of the head.
+pub const CURRENT: usize = 0;
+
+pub const SWITCHES: usize = 1;
+
+// What stands where a thread waits for nothing, where it has no budget, and where no call left results.
+pub const NO_WAIT: Wait = Wait { kind: 0, number: 0 };
+
+pub const NO_BUDGET: BudgetId = BudgetId { is: 0, id: 0 };
+
+pub const NO_RESULTS: Results = Results {
+    first: 0,
+    second: 0,
+    third: 0,
+};
+
+// The flags of a new thread, with interrupts on.
+const FRESH_RFLAGS: u64 = 0x202;
 
 // The record of a new thread.
 pub fn fresh_thread(state: u64, budget: BudgetId) -> Thread
@@ -24,7 +85,7 @@ pub fn fresh_thread(state: u64, budget: BudgetId) -> Thread
 {
     Thread {
         state,
-        wait: Wait { kind: 0, number: 0 },
+        wait: NO_WAIT,
         budget,
         spaces: Spaces {
             is: 0,
@@ -35,22 +96,18 @@ pub fn fresh_thread(state: u64, budget: BudgetId) -> Thread
         context: Context {
             rip: 0,
             rsp: 0,
-            rflags: 514,
+            rflags: FRESH_RFLAGS,
             rdi: 0,
             rsi: 0,
             cs: 0,
             ss: 0,
         },
-        results: Results {
-            first: 0,
-            second: 0,
-            third: 0,
-        },
+        results: NO_RESULTS,
         ticks: 0,
     }
 }
 
-fn read_wait(t: &[u8], o: usize) -> Wait
+pub fn read_wait(t: &[u8], o: usize) -> Wait
     requires { ⌜ o * 8 + 16 ≤ length (now t) ⌝ }
     ensures { λ r. ⌜ r ≡ wait-at (words (now (t .entry))) o ⌝ }
 {
@@ -59,7 +116,7 @@ fn read_wait(t: &[u8], o: usize) -> Wait
     Wait { kind, number }
 }
 
-fn read_budget_id(t: &[u8], o: usize) -> BudgetId
+pub fn read_budget_id(t: &[u8], o: usize) -> BudgetId
     requires { ⌜ o * 8 + 16 ≤ length (now t) ⌝ }
     ensures { λ r. ⌜ r ≡ budget-id-at (words (now (t .entry))) o ⌝ }
 {
@@ -68,7 +125,7 @@ fn read_budget_id(t: &[u8], o: usize) -> BudgetId
     BudgetId { is, id }
 }
 
-fn read_spaces(t: &[u8], o: usize) -> Spaces
+pub fn read_spaces(t: &[u8], o: usize) -> Spaces
     requires { ⌜ o * 8 + 32 ≤ length (now t) ⌝ }
     ensures { λ r. ⌜ r ≡ spaces-at (words (now (t .entry))) o ⌝ }
 {
@@ -126,13 +183,13 @@ pub fn read_thread(t: &[u8], i: usize) -> Thread
     ensures { λ r. ⌜ r ≡ thread-at (words (now (t .entry))) i .it ⌝ }
 {
     let o = i * ROW;
-    let state = carv_area::get(t, o + 2);
-    let wait = read_wait(t, o + 3);
-    let budget = read_budget_id(t, o + 5);
-    let spaces = read_spaces(t, o + 7);
-    let context = read_context(t, o + 11);
-    let results = read_results(t, o + 18);
-    let ticks = carv_area::get(t, o + 21);
+    let state = carv_area::get(t, o + STATE);
+    let wait = read_wait(t, o + WAIT);
+    let budget = read_budget_id(t, o + BUDGET);
+    let spaces = read_spaces(t, o + SPACES);
+    let context = read_context(t, o + CONTEXT);
+    let results = read_results(t, o + RESULTS);
+    let ticks = carv_area::get(t, o + TICKS);
     Thread {
         state,
         wait,
@@ -150,9 +207,9 @@ pub fn write_state(t: &mut [u8], i: usize, state: u64, wait: Wait)
     ensures { λ _. ⌜ words (now (t .exit)) ≡ set-state (words (now (t .entry))) i state wait ⌝ }
 {
     let o = i * ROW;
-    carv_area::put(t, o + 2, state);
-    carv_area::put(t, o + 3, wait.kind);
-    carv_area::put(t, o + 4, wait.number);
+    carv_area::put(t, o + STATE, state);
+    carv_area::put(t, o + WAIT, wait.kind);
+    carv_area::put(t, o + WAIT_NUMBER, wait.number);
 }
 
 // The id, state, wait and budget of the record at place i.
@@ -161,10 +218,10 @@ fn write_start(t: &mut [u8], i: usize, id: u64, state: u64, wait: Wait, budget: 
     ensures { λ _. ⌜ words (now (t .exit)) ≡ set-start (words (now (t .entry))) i id state wait budget ⌝ }
 {
     let o = i * ROW;
-    carv_area::put(t, o + 1, id);
+    carv_area::put(t, o + ID, id);
     write_state(t, i, state, wait);
-    carv_area::put(t, o + 5, budget.is);
-    carv_area::put(t, o + 6, budget.id);
+    carv_area::put(t, o + BUDGET, budget.is);
+    carv_area::put(t, o + BUDGET_ID, budget.id);
 }
 
 fn write_spaces(t: &mut [u8], i: usize, spaces: Spaces)
@@ -172,10 +229,10 @@ fn write_spaces(t: &mut [u8], i: usize, spaces: Spaces)
     ensures { λ _. ⌜ words (now (t .exit)) ≡ set-spaces (words (now (t .entry))) i spaces ⌝ }
 {
     let o = i * ROW;
-    carv_area::put(t, o + 7, spaces.is);
-    carv_area::put(t, o + 8, spaces.space);
-    carv_area::put(t, o + 9, spaces.cspace);
-    carv_area::put(t, o + 10, spaces.root);
+    carv_area::put(t, o + SPACES, spaces.is);
+    carv_area::put(t, o + SPACE, spaces.space);
+    carv_area::put(t, o + CSPACE, spaces.cspace);
+    carv_area::put(t, o + ROOT, spaces.root);
 }
 
 fn write_context(t: &mut [u8], i: usize, context: Context)
@@ -183,13 +240,13 @@ fn write_context(t: &mut [u8], i: usize, context: Context)
     ensures { λ _. ⌜ words (now (t .exit)) ≡ set-context (words (now (t .entry))) i context ⌝ }
 {
     let o = i * ROW;
-    carv_area::put(t, o + 11, context.rip);
-    carv_area::put(t, o + 12, context.rsp);
-    carv_area::put(t, o + 13, context.rflags);
-    carv_area::put(t, o + 14, context.rdi);
-    carv_area::put(t, o + 15, context.rsi);
-    carv_area::put(t, o + 16, context.cs);
-    carv_area::put(t, o + 17, context.ss);
+    carv_area::put(t, o + CONTEXT, context.rip);
+    carv_area::put(t, o + RSP, context.rsp);
+    carv_area::put(t, o + RFLAGS, context.rflags);
+    carv_area::put(t, o + RDI, context.rdi);
+    carv_area::put(t, o + RSI, context.rsi);
+    carv_area::put(t, o + CS, context.cs);
+    carv_area::put(t, o + SS, context.ss);
 }
 
 fn write_results(t: &mut [u8], i: usize, results: Results)
@@ -197,9 +254,9 @@ fn write_results(t: &mut [u8], i: usize, results: Results)
     ensures { λ _. ⌜ words (now (t .exit)) ≡ set-results (words (now (t .entry))) i results ⌝ }
 {
     let o = i * ROW;
-    carv_area::put(t, o + 18, results.first);
-    carv_area::put(t, o + 19, results.second);
-    carv_area::put(t, o + 20, results.third);
+    carv_area::put(t, o + RESULTS, results.first);
+    carv_area::put(t, o + SECOND, results.second);
+    carv_area::put(t, o + THIRD, results.third);
 }
 
 // The results and run ticks of the record at place i.
@@ -208,7 +265,7 @@ fn write_end(t: &mut [u8], i: usize, results: Results, ticks: u64)
     ensures { λ _. ⌜ words (now (t .exit)) ≡ set-end (words (now (t .entry))) i results ticks ⌝ }
 {
     write_results(t, i, results);
-    carv_area::put(t, i * ROW + 21, ticks);
+    carv_area::put(t, i * ROW + TICKS, ticks);
 }
 
 // The record under the id at place i of the table t.
@@ -232,7 +289,7 @@ pub fn write_woken(t: &mut [u8], i: usize, results: Results)
     requires { ⌜ (i * 21 + 21) * 8 + 8 ≤ length (now t) ⌝ }
     ensures { λ _. ⌜ words (now (t .exit)) ≡ set-woken (words (now (t .entry))) i results ⌝ }
 {
-    write_state(t, i, READY, Wait { kind: 0, number: 0 });
+    write_state(t, i, READY, NO_WAIT);
     write_results(t, i, results);
 }
 
@@ -241,7 +298,7 @@ pub fn write_ticked(t: &mut [u8], i: usize)
     requires { ⌜ (i * 21 + 21) * 8 + 8 ≤ length (now t) ⌝ }
     ensures { λ _. ⌜ words (now (t .exit)) ≡ set-ticks (words (now (t .entry))) i ((getD (words (now (t .entry))) (i * 21 + 21) 0 + 1) % 2 ^ 64) ⌝ }
 {
-    let o = i * ROW + 21;
+    let o = i * ROW + TICKS;
     let n = carv_area::get(t, o);
     carv_area::put(t, o, std::num::wrapping_add_u64(n, 1));
 }
@@ -261,6 +318,6 @@ pub fn write_head(h: &mut [u8], current: u64, switches: u64)
     requires { ⌜ length (now h) ≡ 16 ⌝ }
     ensures { λ _. ⌜ words (now (h .exit)) ≡ set (set (words (now (h .entry))) 0 current) 1 switches ⌝ }
 {
-    carv_area::put(h, 0, current);
-    carv_area::put(h, 1, switches);
+    carv_area::put(h, CURRENT, current);
+    carv_area::put(h, SWITCHES, switches);
 }

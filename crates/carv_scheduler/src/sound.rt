@@ -1,12 +1,14 @@
 // Question 1: is a lent area of its length, and is the board in it sound? Any bytes may be asked.
 // carv_objects asks it of the registry's part. Then three walks: over the threads' ids, which must rise; over the queue, which
 // marks the place of each id; and over the threads, each of which is tested by itself and by its mark.
-// specs/SoundWalk.antt says what the walks know, and specs/SoundBridge.antt that this is question 1.
+// specs/laws/SoundWalk.antt says what the walks know, and specs/laws/SoundBridge.antt that this is question 1.
 use crate::area;
 use crate::calls;
+use crate::exits;
 use crate::killing;
 use crate::numbers::BLOCKED;
 use crate::numbers::DEAD;
+use crate::numbers::FIRST;
 use crate::numbers::IDLE;
 use crate::numbers::INACTIVE;
 use crate::numbers::READY;
@@ -22,6 +24,11 @@ ghost use Rattle.carv_objects.specs.laws.SoundWalk.{Tells};
 ghost use Rattle.carv_scheduler_spec.specs.Sound.{unpaid};
 ghost use Rattle.carv_scheduler.specs.Area.{sound-area};
 ghost use Rattle.carv_scheduler.specs.laws.SoundWalk.{wait-fits, budget-fits, space-fits, state-fits, Ordered, Fits, Fit, Current, Idle, Walk, Turned, Walked, SoundThreads, SoundTables, SoundExits, SoundParts};
+
+// Where an id stands is noted under its rest by this prime, and how many notes there can be.
+const GUESSES: u64 = 251;
+
+const NOTES: usize = 256;
 
 // Has a thread in this state this wait?
 fn wait_fits(state: u64, kind: u64, number: u64) -> bool
@@ -40,7 +47,7 @@ fn wait_fits(state: u64, kind: u64, number: u64) -> bool
 fn is_unpaid(id: u64) -> bool
     ensures { λ r. ⌜ r ≡ unpaid id ⌝ }
 {
-    if id == 0 {
+    if id == FIRST {
         return true;
     }
     id == IDLE
@@ -79,10 +86,10 @@ fn space_fits(is: u64, space: u64, cspace: u64, root: u64) -> bool
 fn state_fits(state: u64, id: u64, current: u64, queued: bool) -> bool
     ensures { λ r. ⌜ r ≡ state-fits queued current id state ⌝ }
 {
-    if state < 1 {
+    if state < INACTIVE {
         return false;
     }
-    if state > 5 {
+    if state > DEAD {
         return false;
     }
     if state == DEAD {
@@ -106,26 +113,21 @@ fn thread_fits(t: &[u8], i: usize, current: u64, queued: bool) -> bool
     ensures { λ r. ⌜ Tells r (Fits (words (now (t .entry))) current i queued) ⌝ }
 {
     let o = i * rows::ROW;
-    let id = carv_area::get(t, o + 1);
-    let state = carv_area::get(t, o + 2);
+    let id = carv_area::get(t, o + rows::ID);
+    let state = carv_area::get(t, o + rows::STATE);
     if !state_fits(state, id, current, queued) {
         return false;
     }
-    let kind = carv_area::get(t, o + 3);
-    let number = carv_area::get(t, o + 3 + 1);
-    if !wait_fits(state, kind, number) {
+    let wait = rows::read_wait(t, o + rows::WAIT);
+    if !wait_fits(state, wait.kind, wait.number) {
         return false;
     }
-    let is = carv_area::get(t, o + 5);
-    let budget = carv_area::get(t, o + 5 + 1);
-    if !budget_fits(id, is, budget) {
+    let budget = rows::read_budget_id(t, o + rows::BUDGET);
+    if !budget_fits(id, budget.is, budget.id) {
         return false;
     }
-    let is = carv_area::get(t, o + 7);
-    let space = carv_area::get(t, o + 7 + 1);
-    let cspace = carv_area::get(t, o + 7 + 2);
-    let root = carv_area::get(t, o + 7 + 3);
-    space_fits(is, space, cspace, root)
+    let spaces = rows::read_spaces(t, o + rows::SPACES);
+    space_fits(spaces.is, spaces.space, spaces.cspace, spaces.root)
 }
 
 // Are the n threads in order, where those in the queue are marked?
@@ -157,16 +159,16 @@ fn ids_rise(t: &[u8], n: usize, places: &mut [usize]) -> bool
     if n == 0 {
         return true;
     }
-    let mut before = carv_area::get(t, 1);
-    places[(before % 251) as usize] = 0;
+    let mut before = carv_area::get(t, rows::ID);
+    places[(before % GUESSES) as usize] = 0;
     let mut i = 1;
     while i < n {
-        let id = carv_area::get(t, i * rows::ROW + 1);
+        let id = carv_area::get(t, i * rows::ROW + rows::ID);
         if id <= before {
             return false;
         }
         before = id;
-        places[(id % 251) as usize] = i;
+        places[(id % GUESSES) as usize] = i;
         i += 1;
     }
     true
@@ -180,7 +182,7 @@ fn current_fits(t: &[u8], current: u64) -> bool
     let Found::At(i) = carv_area::find(t, rows::ROW, current) else {
         return false;
     };
-    carv_area::get(t, i * rows::ROW + 2) != INACTIVE
+    carv_area::get(t, i * rows::ROW + rows::STATE) != INACTIVE
 }
 
 // Is idle there, Running, or Ready if it is not current?
@@ -191,7 +193,7 @@ fn idle_fits(t: &[u8], current: u64) -> bool
     let Found::At(i) = carv_area::find(t, rows::ROW, IDLE) else {
         return false;
     };
-    let state = carv_area::get(t, i * rows::ROW + 2);
+    let state = carv_area::get(t, i * rows::ROW + rows::STATE);
     if state == RUNNING {
         return true;
     }
@@ -215,11 +217,11 @@ fn turn(t: &[u8], q: &[u8], j: usize, places: &[usize], marks: &mut [u64]) -> bo
     if id == IDLE {
         return false;
     }
-    let guess = places[(id % 251) as usize];
+    let guess = places[(id % GUESSES) as usize];
     let Found::At(i) = carv_area::find_near(t, rows::ROW, id, guess) else {
         return false;
     };
-    if carv_area::get(t, i * rows::ROW + 2) != READY {
+    if carv_area::get(t, i * rows::ROW + rows::STATE) != READY {
         return false;
     }
     if marks[i] != 0 {
@@ -257,7 +259,7 @@ fn threads_are_sound(t: &[u8], q: &[u8], n: usize, m: usize, current: u64) -> bo
     requires { ⌜ (m ≡ getD (words (now q)) 0 0) × (m ≤ 127) ⌝ }
     ensures { λ r. ⌜ Tells r (SoundThreads (words (now (t .entry))) (words (now (q .entry))) current) ⌝ }
 {
-    let mut places = [0usize; 256];
+    let mut places = [0usize; NOTES];
     if !ids_rise(t, n, &mut places) {
         return false;
     }
@@ -267,7 +269,7 @@ fn threads_are_sound(t: &[u8], q: &[u8], n: usize, m: usize, current: u64) -> bo
     if !idle_fits(t, current) {
         return false;
     }
-    let mut marks = [0u64; 128];
+    let mut marks = [0u64; area::PLACES];
     if !queue_fits(t, q, m, &places, &mut marks) {
         return false;
     }
@@ -280,19 +282,17 @@ fn tables_are_sound(t: &[u8], q: &[u8], current: u64) -> bool
     requires { ⌜ length (now q) ≡ 1_024 ⌝ }
     ensures { λ r. ⌜ Tells r (SoundTables (words (now (t .entry))) (words (now (q .entry))) current) ⌝ }
 {
-    let n = carv_area::get(t, 0);
-    if n > 128 {
+    let n = carv_area::get(t, 0) as usize;
+    if n > area::PLACES {
         return false;
     }
-    let m = carv_area::get(q, 0);
-    if m > 127 {
+    let m = carv_area::get(q, 0) as usize;
+    if m > area::QUEUE_PLACES {
         return false;
     }
-    let n = n as usize;
-    if !carv_area::zero_from(t, n * rows::ROW + 1) {
+    if !carv_area::zero_from(t, n * rows::ROW + rows::ID) {
         return false;
     }
-    let m = m as usize;
     if !carv_area::zero_from(q, m + 1) {
         return false;
     }
@@ -304,17 +304,16 @@ fn exits_are_sound(x: &[u8]) -> bool
     requires { ⌜ length (now x) ≡ 520 ⌝ }
     ensures { λ r. ⌜ Tells r (SoundExits (words (now (x .entry)))) ⌝ }
 {
-    let n = carv_area::get(x, 0);
-    if n > 32 {
+    let n = carv_area::get(x, 0) as usize;
+    if n > exits::PLACES {
         return false;
     }
-    let n = n as usize;
-    if !carv_area::zero_from(x, n * 2 + 1) {
+    if !carv_area::zero_from(x, n * exits::ROW + exits::THREAD) {
         return false;
     }
     let mut i = 0;
     while i < n {
-        let cause = carv_area::get(x, i * 2 + 2);
+        let cause = carv_area::get(x, i * exits::ROW + exits::CAUSE);
         if !killing::is_cause(cause) {
             return false;
         }
@@ -328,7 +327,7 @@ fn parts_are_sound(area: &[u8]) -> bool
     requires { ⌜ length (now area) ≡ 68_144 ⌝ }
     ensures { λ r. ⌜ Tells r (SoundParts (now (area .entry))) ⌝ }
 {
-    let current = carv_area::get(&area[area::HEAD..area::THREADS], 0);
+    let current = area::current(area);
     if !tables_are_sound(
         &area[area::THREADS..area::QUEUE],
         &area[area::QUEUE..area::EXITS],

@@ -3,8 +3,11 @@ use crate::Answer;
 use crate::area;
 use crate::numbers::BLOCKED;
 use crate::numbers::LAST_TICK;
+use crate::numbers::SLEEP;
 use crate::numbers::TICK;
+use crate::rows;
 use carv_area::Found;
+use carv_objects::refused;
 use carv_scheduler_spec::Results;
 ghost use mathlib.Core.Path.{_≡_};
 ghost use mathlib.Core.Bool.{true};
@@ -44,10 +47,10 @@ pub fn wake(a: &mut [u8], id: u64, results: Results) -> Answer
     ensures { λ r. ⌜ Serves (wake id results) (now (a .entry)) r (now (a .exit)) ⌝ }
 {
     let Found::At(i) = area::find_thread(a, id) else {
-        return Answer::Refused(7);
+        return Answer::Refused(refused::MISSING);
     };
     if area::thread_word(a, i, area::STATE) != BLOCKED {
-        return Answer::Refused(8);
+        return Answer::Refused(refused::STATE);
     }
     wake_thread(a, i, id, results);
     Answer::Done
@@ -62,7 +65,7 @@ fn is_due(a: &[u8], i: usize, n: u64) -> bool
     if area::thread_word(a, i, area::STATE) != BLOCKED {
         return false;
     }
-    if area::thread_word(a, i, area::WAIT) != 5 {
+    if area::thread_word(a, i, area::WAIT) != SLEEP {
         return false;
     }
     if area::thread_word(a, i, area::WAIT_NUMBER) > n {
@@ -81,16 +84,7 @@ fn wake_at(a: &mut [u8], i: usize, n: u64)
         return;
     }
     let id = area::thread_id(a, i);
-    wake_thread(
-        a,
-        i,
-        id,
-        Results {
-            first: 0,
-            second: 0,
-            third: 0,
-        },
-    )
+    wake_thread(a, i, id, rows::NO_RESULTS)
 }
 
 // The sleepers that are due at tick n wake, by rising id.
@@ -130,7 +124,7 @@ pub fn tick(a: &mut [u8], n: u64) -> Answer
     ensures { λ r. ⌜ Serves (tick n) (now (a .entry)) r (now (a .exit)) ⌝ }
 {
     if n > LAST_TICK {
-        return Answer::Refused(3);
+        return Answer::Refused(refused::TICK);
     }
     account(a, n * TICK);
     wake_sleepers(a, n);

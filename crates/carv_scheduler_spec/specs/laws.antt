@@ -1,6 +1,7 @@
--- What is proved of the definitions. Questions: each question of each call. Demand1: what a refusal leaves. Kept: calls keep soundness, which SoundFacts has as facts. Refines, Demand2: the
--- calls, and lists of them, are the Rust's. Following, History, Demand3: the book follows the board, so its figures are the lines and its choice runs. Edges:
--- document 01's cases in one list. Panics: the Rust doesn't panic. The others serve these.
+-- What is proved of the definitions. Questions: each question of each call. Demand1: what a refusal leaves. Kept: calls keep soundness, which SoundFacts has as facts.
+-- Refines, Demand2: the calls, and lists of them, are the Rust's; LentExits: so are searches of lent exits. Panics: the Rust doesn't. Following, History, Demand3: the book
+-- follows the board, so its figures are the lines and its choice runs; Sentences says it sentence by sentence. Added, Limits, Edges: which refusals are added, codes and
+-- limits, and document 01's cases, written out. The others serve these.
 pub mod SoundFacts
 pub mod Reading
 pub mod SoundLaws
@@ -14,6 +15,9 @@ pub mod Following
 pub mod History
 pub mod Demand1
 pub mod Demand2
+pub mod Added
+pub mod Limits
 pub mod Demand3
+pub mod Sentences
 pub mod Edges
 pub mod Panics

@@ -1,31 +1,19 @@
--- The laws of `Record` and `Replay`: a word by its halves, that the tests of equality tell equality, a call by its op, and the count of differences.
--- Assumes nothing.
+-- The laws of `Replay`: that the tests of equality tell equality, a call by its op, and the count of differences. Assumes nothing.
 use mathlib.Core.Bool.{Bool, true, false, cond, _&&_}
 use mathlib.Core.List.{List}
 use mathlib.Core.Path.{_≡_, refl}
-use Prim.Native.Nat.{ℕ, zero, suc, _+_, _*_, _/_, _%_, _≤_}
-use native.Mathlib.Numerals.{add-one, towards-numerals}
+use Prim.Native.Nat.{ℕ, _+_, _*_}
+use native.Mathlib.Numerals.{add-one}
 use native.Mathlib.Omega.{arith}
-use lib.Dec.{eqb}
 use borrow.Author.Tests.{eqb-true, eq-eqb, ne-eqb}
 use Rattle.carv_budget.specs.declared.Account.{Account}
 use Rattle.carv_budget.specs.declared.Outcome.{Outcome}
 use Rattle.carv_budget.specs.Account.{number, blank, with-memory}
 use Rattle.carv_budget.specs.laws.Account.{both, first, second}
-use Rattle.replay_accounts.specs.declared.Block.{Block}
 use Rattle.replay_accounts.specs.declared.record.Call.{Call}
 use Rattle.replay_accounts.specs.declared.record.Reply.{Reply}
-use Rattle.replay_accounts.specs.Record.{little-endian, call, reply}
-use Rattle.replay_accounts.specs.Replay.{left, same, same-reply, gives, agrees, differing, cut, block}
-
--- a number by its halves
-pub four-bytes : (l : List ℕ) (o : ℕ) → little-endian 2 l o + little-endian 2 l (o + 2) * 65536 ≡ little-endian 4 l o
-unfolding little-endian
-four-bytes l o = simp towards-numerals (omega arith)
-
-pub eight-bytes : (l : List ℕ) (o : ℕ) → little-endian 4 l o + little-endian 4 l (o + 4) * 4294967296 ≡ little-endian 8 l o
-unfolding little-endian
-eight-bytes l o = simp towards-numerals (omega arith)
+use Rattle.replay_accounts.specs.Record.{call, reply}
+use Rattle.replay_accounts.specs.Replay.{left, same, same-reply, gives, agrees, differing}
 
 -- accounts whose figures are equal
 pub all-equal : (a b : Account) → a .«cpu_allowance» ≡ b .«cpu_allowance» → a .«memory_limit» ≡ b .«memory_limit» → a .«period_start» ≡ b .«period_start»
@@ -91,17 +79,3 @@ differing-right n l p = rw (add-one, p) (omega arith)
 pub differing-wrong : (n : ℕ) (l : List ℕ) → agrees (call l (n * 34)) (reply l (n * 34)) ≡ false → differing (n + 1) l ≡ differing n l + 1
 unfolding differing
 differing-wrong n l p = rw (add-one, p)
-
--- bounds on what a block gives
-one-most : (b : Bool) → cond b 0 1 ≤ 1
-one-most true = omega arith
-one-most false = omega arith
-
-differing-most : (n : ℕ) (l : List ℕ) → differing n l ≤ n
-unfolding differing
-differing-most zero l = omega arith
-differing-most (suc n) l = omega (arith, differing-most n l, one-most (agrees (call l (n * 34)) (reply l (n * 34))))
-
-pub block-most : (n : ℕ) (l : List ℕ) → n ≤ 65_280 → (block n l .calls ≤ 240) × (block n l .differences ≤ 241)
-unfolding block cut
-block-most n l h = (omega arith, omega (arith, differing-most (n / 272) l, one-most (eqb (n % 272) 0)))

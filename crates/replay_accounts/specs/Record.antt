@@ -10,21 +10,12 @@
 --   words 20-26   the account after the call
 --   words 27-33   the child after the call
 -- Every other word is 0. Where it stands before the call it is not looked at, and after the call it is compared.
-use Prim.Native.Nat.{ℕ, zero, suc, _+_, _*_}
+use Prim.Native.Nat.{ℕ, _+_}
 use mathlib.Core.List.{List}
-use lib.ListN.{getD}
 use Rattle.carv_budget.specs.declared.Account.{Account}
+use Rattle.replay_records.specs.Word.{word}
 use Rattle.replay_accounts.specs.declared.record.Call.{Call}
 use Rattle.replay_accounts.specs.declared.record.Reply.{Reply}
-
--- the number that the n bytes of l from place o make
-unfoldable pub little-endian : ℕ → List ℕ → ℕ → ℕ
-little-endian zero l o = 0
-little-endian (suc n) l o = getD l o 0 + 256 * little-endian n l (suc o)
-
--- word number k of l
-unfoldable pub word : List ℕ → ℕ → ℕ
-word l k = little-endian 8 l (k * 8)
 
 -- the account in the seven words of l from word number k on
 unfoldable pub account : List ℕ → ℕ → Account

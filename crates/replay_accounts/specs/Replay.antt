@@ -1,7 +1,8 @@
 -- What a record's call gives, and how many records say otherwise. Assumes nothing.
+use mathlib.Core.Path.{_≡_}
 use mathlib.Core.Bool.{Bool, true, false, cond, _&&_}
 use mathlib.Core.List.{List}
-use Prim.Native.Nat.{ℕ, zero, suc, _+_, _*_, _/_, _%_}
+use Prim.Native.Nat.{ℕ, zero, suc, _+_, _*_}
 use lib.Dec.{eqb}
 use Rattle.carv_budget.specs.declared.Account.{Account}
 use Rattle.carv_budget.specs.declared.Answer.{Answer}
@@ -9,7 +10,6 @@ use Rattle.carv_budget.specs.declared.Answer.the-variants.{Done, Renewed, NotDu
 use Rattle.carv_budget.specs.declared.Outcome.{Outcome}
 use Rattle.carv_budget.specs.declared.CarveOut.{CarveOut}
 use Rattle.carv_budget.specs.Account.{number, blank, open-account, refill, charge-cpu, charge-memory, release-memory, carve-out, release-child}
-use Rattle.replay_accounts.specs.declared.Block.{Block}
 use Rattle.replay_accounts.specs.declared.record.Call.{Call}
 use Rattle.replay_accounts.specs.declared.record.Reply.{Reply}
 use Rattle.replay_accounts.specs.Record.{call, reply}
@@ -93,10 +93,6 @@ unfoldable pub differing : ℕ → List ℕ → ℕ
 differing zero l = 0
 differing (suc n) l = differing n l + cond (agrees (call l (n * 34)) (reply l (n * 34))) 0 1
 
--- 1 where n bytes end inside a record
-unfoldable pub cut : ℕ → ℕ
-cut n = cond (eqb (n % 272) 0) 0 1
-
--- what a block of n bytes at the start of l gives: the calls, the differences, a record that is cut short being one, and whether the block is full
-unfoldable pub block : ℕ → List ℕ → Block
-block n l = record { calls = n / 272; differences = differing (n / 272) l + cut n; «is_full» = eqb n 65_280 }
+-- of the first n records of l, d differ
+abbrev pub Differ : List ℕ → (n d : ℕ) → Type 0
+Differ l n d = d ≡ differing n l

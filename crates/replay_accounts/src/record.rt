@@ -1,8 +1,9 @@
 // Reading a record: 34 words of 8 bytes each, the least byte first.
 ghost use mathlib.Core.Path.{_≡_};
-ghost use Prim.Native.Nat.{_+_, _*_, _≤_, _<_};
+ghost use Prim.Native.Nat.{_+_, _*_, _≤_};
 ghost use lib.ListN.{length};
-ghost use Rattle.replay_accounts.specs.Record.{little-endian, word, account, call, reply};
+ghost use Rattle.replay_accounts.specs.Record.{account, call, reply};
+use carv_area::get;
 use carv_budget::Account;
 
 // The call that a record tells of.
@@ -23,47 +24,19 @@ pub struct Reply {
     pub child: Account,
 }
 
-fn byte(x: u8) -> u64
-    ensures { λ r. ⌜ (r ≡ x) × (r < 256) ⌝ }
-{
-    x as u64
-}
-
-fn two_bytes(buf: &[u8], at: usize) -> u64
-    requires { ⌜ at + 2 ≤ length (now buf) ⌝ }
-    ensures { λ r. ⌜ (r ≡ little-endian 2 (now (buf .entry)) at) × (r < 65536) ⌝ }
-{
-    byte(buf[at]) + byte(buf[at + 1]) * 256
-}
-
-fn four_bytes(buf: &[u8], at: usize) -> u64
-    requires { ⌜ at + 4 ≤ length (now buf) ⌝ }
-    ensures { λ r. ⌜ (r ≡ little-endian 4 (now (buf .entry)) at) × (r < 4294967296) ⌝ }
-{
-    two_bytes(buf, at) + two_bytes(buf, at + 2) * 65536
-}
-
-// Word number k of buf.
-fn word_at(buf: &[u8], k: usize) -> u64
-    requires { ⌜ k * 8 + 8 ≤ length (now buf) ⌝ }
-    ensures { λ r. ⌜ r ≡ word (now (buf .entry)) k ⌝ }
-{
-    four_bytes(buf, k * 8) + four_bytes(buf, k * 8 + 4) * 4294967296
-}
-
 // The account in the seven words from word number k on.
 fn account_at(buf: &[u8], k: usize) -> Account
     requires { ⌜ k * 8 + 56 ≤ length (now buf) ⌝ }
     ensures { λ r. ⌜ r ≡ account (now (buf .entry)) k ⌝ }
 {
     Account {
-        cpu_allowance: word_at(buf, k),
-        memory_limit: word_at(buf, k + 1),
-        period_start: word_at(buf, k + 2),
-        cpu_left: word_at(buf, k + 3),
-        cpu_reserved: word_at(buf, k + 4),
-        memory_used: word_at(buf, k + 5),
-        memory_reserved: word_at(buf, k + 6),
+        cpu_allowance: get(buf, k),
+        memory_limit: get(buf, k + 1),
+        period_start: get(buf, k + 2),
+        cpu_left: get(buf, k + 3),
+        cpu_reserved: get(buf, k + 4),
+        memory_used: get(buf, k + 5),
+        memory_reserved: get(buf, k + 6),
     }
 }
 
@@ -73,12 +46,12 @@ pub fn call_at(buf: &[u8], k: usize) -> Call
     ensures { λ r. ⌜ r ≡ call (now (buf .entry)) k ⌝ }
 {
     Call {
-        op: word_at(buf, k),
+        op: get(buf, k),
         account: account_at(buf, k + 1),
         child: account_at(buf, k + 8),
-        first: word_at(buf, k + 15),
-        second: word_at(buf, k + 16),
-        time: word_at(buf, k + 17),
+        first: get(buf, k + 15),
+        second: get(buf, k + 16),
+        time: get(buf, k + 17),
     }
 }
 
@@ -88,8 +61,8 @@ pub fn reply_at(buf: &[u8], k: usize) -> Reply
     ensures { λ r. ⌜ r ≡ reply (now (buf .entry)) k ⌝ }
 {
     Reply {
-        number: word_at(buf, k + 18),
-        value: word_at(buf, k + 19),
+        number: get(buf, k + 18),
+        value: get(buf, k + 19),
         account: account_at(buf, k + 20),
         child: account_at(buf, k + 27),
     }

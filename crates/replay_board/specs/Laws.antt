@@ -1,18 +1,19 @@
--- The laws of `Record` and `Replay`: answer words that are as recorded, which code is the last, and one record more. Assumes nothing.
-use mathlib.Core.Bool.{Bool, true, false, not, cond, false≢true}
+-- The laws of `Record` and `Replay`: answer words that are as recorded, and which code is the last. Assumes nothing.
+use mathlib.Core.Bool.{Bool, true, false, false≢true}
 use mathlib.Core.List.{List}
 use mathlib.Core.Logic.{_⊎_, ⊎-elim}
 use mathlib.Core.Path.{_≡_, refl, sym, ap, _∙_}
 use Prim.Native.Nat.{ℕ, zero, suc, _+_, _*_, _≤_, _<_}
-use native.Mathlib.Numerals.{add-one}
 use native.Mathlib.Omega.{arith}
 use lib.ListN.{length, getD, replicate}
 use lib.Seq.{ext-getD}
-use borrow.Author.Tests.{lt-ltb, le-ltb, not-true, not-false}
-use Rattle.carv_area.specs.Lists.{tab, length-tab, getD-tab, same-or-not}
+use borrow.Author.Tests.{lt-ltb, le-ltb}
+use Rattle.carv_area.specs.Lists.{tab}
+use Rattle.carv_area.specs.laws.Lists.{length-tab, getD-tab, same-or-not}
+use Rattle.replay_records.specs.Word.{word}
 use Rattle.replay_board.specs.declared.record.Call.{Call}
-use Rattle.replay_board.specs.Record.{word, call, unwritten, recorded-word, recorded, Tells}
-use Rattle.replay_board.specs.Replay.{Made, Agrees, made, not-listed, Step, Replayed}
+use Rattle.replay_board.specs.Record.{call, unwritten, recorded-word, recorded, Tells}
+use Rattle.replay_board.specs.Replay.{Made, Agrees, made, not-listed}
 
 module _ (l : List ℕ) (k : ℕ) where
   -- a word that is written, and one that stays
@@ -72,18 +73,3 @@ module _ (l : List ℕ) (k : ℕ) (a : List ℕ) (c : Call) (e : c ≡ call l k)
 
   pub one-made : (r : ℕ) (a′ out : List ℕ) → Made c a (replicate 20 unwritten) r a′ out → (b : Bool) → Tells b ((r ≡ word l (k + 12)) × (out ≡ recorded l k)) → Agrees l k a b a′
   one-made r a′ out h b t = made r out (rw (← e) h) t
-
--- one record more
-pub one-more : (l a : List ℕ) (n d : ℕ) (a₁ a₂ : List ℕ) (b : Bool) → Replayed l a n d a₁ → Agrees l (n * 34) a₁ b a₂ → (d₂ : ℕ) → d₂ ≡ d + cond b 0 1
-    → Replayed l a (n + 1) d₂ a₂
-unfolding Replayed
-one-more l a n d a₁ a₂ b h g d₂ e = rw add-one (record { count = d; area = a₁; agrees = b; earlier = h; after = g; counted = e })
-
-pub one-wrong : (b : Bool) → not b ≡ true → _≡_ {A = ℕ} (cond b 0 1) 1
-one-wrong b p = rw (not-true b p)
-
-pub one-right : (b : Bool) → not b ≡ false → _≡_ {A = ℕ} (cond b 0 1) 0
-one-right b p = rw (not-false b p)
-
-pub all-done : (l a : List ℕ) (i n d : ℕ) (a′ : List ℕ) → i ≡ n → Replayed l a i d a′ → Replayed l a n d a′
-all-done l a i n d a′ e h = rw (sym e) h

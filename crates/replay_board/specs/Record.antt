@@ -10,14 +10,9 @@ use mathlib.Core.Bool.{Bool, true, cond}
 use mathlib.Core.List.{List}
 use Prim.Native.Nat.{ℕ, _+_}
 use lib.Dec.{ltb}
-use lib.ListN.{getD}
 use Rattle.carv_area.specs.Lists.{tab}
-use Rattle.carv_area.specs.Words.{words}
+use Rattle.replay_records.specs.Word.{word}
 use Rattle.replay_board.specs.declared.record.Call.{Call}
-
--- word number k of the bytes l
-abbrev pub word : List ℕ → ℕ → ℕ
-word l k = getD (words l) k 0
 
 -- the call of the record from word number k on
 unfoldable pub call : List ℕ → ℕ → Call

@@ -1,16 +1,18 @@
 -- What a record's call answers and leaves, and how many records say otherwise. Assumes nothing.
 use mathlib.Core.Path.{_≡_}
-use mathlib.Core.Bool.{Bool, false, cond}
+use mathlib.Core.Bool.{Bool, false}
 use mathlib.Core.Logic.{_⊎_}
 use mathlib.Core.List.{List}
-use Prim.Native.Nat.{ℕ, zero, suc, _+_, _*_, _<_}
+use Prim.Native.Nat.{ℕ, _+_, _*_, _<_}
 use lib.Dec.{eqb}
 use lib.ListN.{replicate}
 use Rattle.carv_objects_spec.specs.Registry.{create, insert, create-budget, charge-more, uncharge, remove, refill, charge-cpu, pays-for-anything, read-account, charge-of}
 use Rattle.carv_scheduler_spec.specs.Scheduler.{by-registry, create-user-thread, start, block-current, wake, is-blocked-on, kill, tick, plan, read-thread, read-current, read-switches, exit-of}
 use Rattle.carv.specs.C.{Called, Opens, CreatesInC}
+use Rattle.replay_records.specs.Word.{word}
+use Rattle.replay_records.specs.Replayed.{Replayed}
 use Rattle.replay_board.specs.declared.record.Call.{Call}
-use Rattle.replay_board.specs.Record.{word, call, unwritten, recorded, Tells}
+use Rattle.replay_board.specs.Record.{call, unwritten, recorded, Tells}
 
 -- a new thread, with a register image that starts as zeros
 pub record NewThread (id budget : ℕ) (stack : Bool) (a out : List ℕ) (r : ℕ) (a′ out′ : List ℕ) : Type 0 where
@@ -58,16 +60,6 @@ pub data Agrees (l : List ℕ) (k : ℕ) (a : List ℕ) (b : Bool) (a′ : List 
   made : (r : ℕ) (out : List ℕ) → Made (call l k) a (replicate 20 unwritten) r a′ out → Tells b ((r ≡ word l (k + 12)) × (out ≡ recorded l k)) → Agrees l k a b a′
   not-listed : (call l k .op < 1) ⊎ (24 < call l k .op) → b ≡ false → a′ ≡ a → Agrees l k a b a′
 
--- one record more: d differences and the area a′, after a number and an area of which `before` holds
-pub record Step (before : ℕ → List ℕ → Type 0) (l : List ℕ) (k d : ℕ) (a′ : List ℕ) : Type 0 where
-  pub count : ℕ
-  pub area : List ℕ
-  pub agrees : Bool
-  pub earlier : before count area
-  pub after : Agrees l k area agrees a′
-  pub counted : d ≡ count + cond agrees 0 1
-
 -- of the first n records of l, replayed from the area a on, d differ, and a′ is left
-unfoldable pub Replayed : (l a : List ℕ) (n d : ℕ) (a′ : List ℕ) → Type 0
-Replayed l a zero d a′ = (d ≡ 0) × (a′ ≡ a)
-Replayed l a (suc n) d a′ = Step (Replayed l a n) l (n * 34) d a′
+abbrev pub Replays : (a a′ l : List ℕ) (n d : ℕ) → Type 0
+Replays a a′ l n d = Replayed (λ k. Agrees l (k * 34)) a n d a′

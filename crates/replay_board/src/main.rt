@@ -2,15 +2,17 @@
 // area that starts as zeros, compares the answer with the record, and writes which calls differ, and at
 // the end how many calls there were and how many of them differ. specs/Record.antt says what a record holds.
 ghost use mathlib.Core.Path.{_≡_};
-ghost use Prim.Native.Nat.{_+_, _*_, _≤_};
+ghost use Prim.Native.Nat.{_+_, _*_, _≤_, _<_};
 ghost use lib.ListN.{length};
-ghost use Rattle.replay_board.specs.Replay.{Replayed};
+ghost use Rattle.replay_records.specs.Tally.{Room, Counted};
+ghost use Rattle.replay_board.specs.Replay.{Replays};
 
 mod record;
 mod replay;
 
 use carv_area::get;
 use replay::matches;
+use replay_records::Tally;
 
 const RECORD_WORDS: usize = 34;
 
@@ -18,22 +20,6 @@ const RECORD_BYTES: usize = 272;
 
 // The bytes of the board.
 const AREA_BYTES: usize = 68_144;
-
-// The bytes of 240 records.
-const BLOCK_BYTES: usize = 65_280;
-
-// What a block of the input gives, and whether the input may go on behind it.
-struct Block {
-    calls: u64,
-    differences: u64,
-    is_full: bool,
-}
-
-// What the whole input gives.
-struct Tally {
-    calls: u64,
-    differences: u64,
-}
 
 // Writes that a record differs: its number, counted from 1, and its call.
 fn tell(number: u64, op: u64) {
@@ -48,7 +34,7 @@ fn tell(number: u64, op: u64) {
 fn differences(area: &mut [u8], buf: &[u8], n: usize, before: u64) -> u64
     requires { ⌜ n * 272 ≤ length (now buf) ⌝ }
     requires { ⌜ before + n ≤ 18_446_744_073_709_551_615 ⌝ }
-    ensures { λ r. ⌜ Replayed (now (buf .entry)) (now (area .entry)) n r (now (area .exit)) × (r ≤ n) ⌝ }
+    ensures { λ r. ⌜ Replays (now (area .entry)) (now (area .exit)) (now (buf .entry)) n r × (r ≤ n) ⌝ }
 {
     let mut count: u64 = 0;
     let mut i = 0;
@@ -63,56 +49,35 @@ fn differences(area: &mut [u8], buf: &[u8], n: usize, before: u64) -> u64
     count
 }
 
-// 1 where n bytes end inside a record, which it writes.
-fn cut_short(n: usize) -> u64
-    ensures { λ r. ⌜ r ≤ 1 ⌝ }
-{
-    if n % RECORD_BYTES == 0 {
-        return 0;
-    }
-    io::write_all(libc::STDOUT_FILENO, b"the last record is cut short\n");
-    1
-}
-
-// Reads and replays up to 240 records, behind `before` others. A read that fails counts as the end of
-// the input. A record that is cut short is a difference and no call.
-fn next_block(area: &mut [u8], before: u64) -> Block
-    requires { ⌜ before ≤ 240_000_000_000_000 ⌝ }
-    ensures { λ r. ⌜ (r .calls ≤ 240) × (r .differences ≤ 241) ⌝ }
-{
-    let mut buf = [0u8; BLOCK_BYTES];
-    let n = io::read_full(libc::STDIN_FILENO, &mut buf);
-    let calls = n / RECORD_BYTES;
-    Block {
-        calls: calls as u64,
-        differences: differences(area, &buf, calls, before) + cut_short(n),
-        is_full: n == BLOCK_BYTES,
+// Writes it where n bytes end inside a record.
+fn tell_cut(n: usize) {
+    if replay_records::cut_short(n, RECORD_BYTES) == 1 {
+        io::write_all(libc::STDOUT_FILENO, b"the last record is cut short\n");
     }
 }
 
-// A proved loop has to end, and nothing says that the input does. So the loop counts its blocks
-// down, from a number that no run uses up.
+// Reads and replays a block more.
+fn next_block(area: &mut [u8], tally: Tally) -> Tally
+    requires { ⌜ Room tally × (0 < tally .blocks) ⌝ }
+    ensures { λ r. ⌜ Counted 272 (Replays (now (area .entry)) (now (area .exit))) tally r ⌝ }
+    ensures { λ r. ⌜ Room r × (r .blocks < tally .blocks) ⌝ }
+{
+    let mut buf = io::large_buffer();
+    let n = replay_records::read_block(&mut buf, RECORD_BYTES);
+    let different = differences(area, &buf, n / RECORD_BYTES, tally.calls);
+    tell_cut(n);
+    replay_records::add(tally, n, RECORD_BYTES, different)
+}
+
 fn replay_all(area: &mut [u8]) -> Tally {
-    let mut calls: u64 = 0;
-    let mut differences: u64 = 0;
-    let mut blocks: u64 = 1_000_000_000_000;
-    while blocks > 0 {
-        let block = next_block(area, calls);
-        calls += block.calls;
-        differences += block.differences;
-        if !block.is_full {
-            break;
-        }
-        blocks -= 1;
+    let mut tally = replay_records::start();
+    while tally.blocks > 0 {
+        tally = next_block(area, tally);
     }
-    Tally { calls, differences }
+    tally
 }
 
 fn main() {
     let mut area = [0u8; AREA_BYTES];
-    let tally = replay_all(&mut area);
-    io::print_decimal(libc::STDOUT_FILENO, tally.calls);
-    io::write_all(libc::STDOUT_FILENO, b" calls, ");
-    io::print_decimal(libc::STDOUT_FILENO, tally.differences);
-    io::write_all(libc::STDOUT_FILENO, b" differences\n");
+    replay_records::report(replay_all(&mut area));
 }

@@ -2,7 +2,8 @@
 ghost use mathlib.Core.Path.{_≡_};
 ghost use Prim.Native.Nat.{_+_, _*_, _≤_, _<_};
 ghost use lib.ListN.{length};
-ghost use Rattle.replay_board.specs.Record.{word, call, recorded-word, recorded, Tells};
+ghost use Rattle.replay_records.specs.Word.{word};
+ghost use Rattle.replay_board.specs.Record.{call, recorded-word, recorded, Tells};
 use carv_area::get;
 
 // The call that a record tells of: its code and its arguments.

@@ -1,18 +1,18 @@
 -- The laws of `Replay`: that the test of equality tells equality, which op is not listed, and one record more. Assumes nothing.
-use mathlib.Core.Bool.{Bool, true, false, not, cond, _&&_}
+use mathlib.Core.Bool.{Bool, true, false, cond, _&&_}
 use mathlib.Core.List.{List}
 use mathlib.Core.Path.{_≡_, refl, sym, ap, _∙_}
 use Prim.Native.Nat.{ℕ, _+_, _*_, _≤_}
-use native.Mathlib.Numerals.{add-one}
 use native.Mathlib.Omega.{arith}
 use lib.Dec.{leb}
-use borrow.Author.Tests.{eqb-true, eq-eqb, leb-true, not-true, not-false}
+use borrow.Author.Tests.{eqb-true, eq-eqb, leb-true}
 use Rattle.carv_budget.specs.laws.Account.{both, first, second}
 use Rattle.carv_objects.specs.declared.Answer.{Answer}
+use Rattle.replay_records.specs.laws.Replayed as replayed
 use Rattle.replay_objects.specs.declared.record.Call.{Call}
 use Rattle.replay_objects.specs.declared.record.Reply.{Reply}
 use Rattle.replay_objects.specs.Record.{call, reply}
-use Rattle.replay_objects.specs.Replay.{replied, same, Agrees, Step, Replayed}
+use Rattle.replay_objects.specs.Replay.{replied, same, Agrees, Replays}
 
 -- replies whose words are equal
 abbrev whole : Reply → Reply
@@ -66,18 +66,8 @@ module _ (op : ℕ) where
       omega (arith, k, leb-true op 12 (second (leb 1 op) (leb op 12) p)))
 
 -- one record more
-pub one-more : (l a : List ℕ) (n d : ℕ) (a₁ a₂ : List ℕ) (c : Call) (y : Reply) (b : Bool) → Replayed l a n d a₁ → c ≡ call l (n * 16) → y ≡ reply l (n * 16)
-    → Agrees c y a₁ b a₂ → (d₂ : ℕ) → d₂ ≡ d + cond b 0 1 → Replayed l a (n + 1) d₂ a₂
-unfolding Replayed
+pub one-more : (l a : List ℕ) (n d : ℕ) (a₁ a₂ : List ℕ) (c : Call) (y : Reply) (b : Bool) → Replays a a₁ l n d → c ≡ call l (n * 16) → y ≡ reply l (n * 16)
+    → Agrees c y a₁ b a₂ → (d₂ : ℕ) → d₂ ≡ d + cond b 0 1 → Replays a a₂ l (n + 1) d₂
 one-more l a n d a₁ a₂ c y b h p q g d₂ e =
     let k : Agrees (call l (n * 16)) (reply l (n * 16)) a₁ b a₂ = rw (sym p, sym q) g in
-    rw add-one (record { count = d; area = a₁; agrees = b; earlier = h; after = k; counted = e })
-
-pub one-wrong : (b : Bool) → not b ≡ true → _≡_ {A = ℕ} (cond b 0 1) 1
-one-wrong b p = rw (not-true b p)
-
-pub one-right : (b : Bool) → not b ≡ false → _≡_ {A = ℕ} (cond b 0 1) 0
-one-right b p = rw (not-false b p)
-
-pub all-done : (l a : List ℕ) (i n d : ℕ) (a′ : List ℕ) → i ≡ n → Replayed l a i d a′ → Replayed l a n d a′
-all-done l a i n d a′ e h = rw (sym e) h
+    replayed.one-more (λ i. Agrees (call l (i * 16)) (reply l (i * 16))) a n d a₁ a₂ b h k d₂ e

@@ -8,14 +8,9 @@
 -- Every other word is 0. Among words 1-4 and 13-15 it is not looked at, and among words 6-12 it is compared.
 use Prim.Native.Nat.{ℕ, _+_}
 use mathlib.Core.List.{List}
-use lib.ListN.{getD}
-use Rattle.carv_area.specs.Words.{words}
+use Rattle.replay_records.specs.Word.{word}
 use Rattle.replay_objects.specs.declared.record.Call.{Call}
 use Rattle.replay_objects.specs.declared.record.Reply.{Reply}
-
--- word number k of the bytes l
-abbrev pub word : List ℕ → ℕ → ℕ
-word l k = getD (words l) k 0
 
 -- the call of the record from word number k on
 unfoldable pub call : List ℕ → ℕ → Call

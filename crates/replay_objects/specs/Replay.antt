@@ -1,14 +1,15 @@
 -- What a record's call answers and leaves, and how many records say otherwise. Assumes nothing.
 use mathlib.Core.Path.{_≡_}
-use mathlib.Core.Bool.{Bool, true, false, cond, _&&_}
+use mathlib.Core.Bool.{Bool, true, false, _&&_}
 use mathlib.Core.List.{List}
-use Prim.Native.Nat.{ℕ, zero, suc, _+_, _*_}
+use Prim.Native.Nat.{ℕ, _*_}
 use lib.Dec.{eqb, leb}
 use Rattle.carv_budget.specs.declared.Account.{Account}
 use Rattle.carv_objects.specs.declared.Answer.{Answer}
 use Rattle.carv_objects.specs.declared.Answer.the-variants.{Done, Id, Renewed, NotDue, Pays, PaysNothing, AccountOf, Charge, Refused}
 use Rattle.carv_objects_spec.specs.Registry.{create, insert, create-budget, charge-more, uncharge, remove, refill, charge-cpu, pays-for-anything, read-account, charge-of}
 use Rattle.carv_objects.specs.Area.{Answered, Opened}
+use Rattle.replay_records.specs.Replayed.{Replayed}
 use Rattle.replay_objects.specs.declared.record.Call.{Call}
 use Rattle.replay_objects.specs.declared.record.Reply.{Reply}
 use Rattle.replay_objects.specs.Record.{call, reply}
@@ -63,16 +64,6 @@ pub data Agrees (c : Call) (y : Reply) (a : List ℕ) (b : Bool) (a′ : List �
   made : (x : Answer) → Made c a x a′ → b ≡ same (replied x) y → Agrees c y a b a′
   not-listed : (leb 1 (c .op) && leb (c .op) 12) ≡ false → b ≡ false → a′ ≡ a → Agrees c y a b a′
 
--- one record more: d differences and the area a′, after a number and an area of which `before` holds
-pub record Step (before : ℕ → List ℕ → Type 0) (c : Call) (y : Reply) (d : ℕ) (a′ : List ℕ) : Type 0 where
-  pub count : ℕ
-  pub area : List ℕ
-  pub agrees : Bool
-  pub earlier : before count area
-  pub after : Agrees c y area agrees a′
-  pub counted : d ≡ count + cond agrees 0 1
-
 -- of the first n records of l, replayed from the area a on, d differ, and a′ is left
-unfoldable pub Replayed : (l a : List ℕ) (n d : ℕ) (a′ : List ℕ) → Type 0
-Replayed l a zero d a′ = (d ≡ 0) × (a′ ≡ a)
-Replayed l a (suc n) d a′ = Step (Replayed l a n) (call l (n * 16)) (reply l (n * 16)) d a′
+abbrev pub Replays : (a a′ l : List ℕ) (n d : ℕ) → Type 0
+Replays a a′ l n d = Replayed (λ k. Agrees (call l (k * 16)) (reply l (k * 16))) a n d a′

@@ -77,7 +77,7 @@ fn is_same(a: Reply, b: Reply) -> bool
     true
 }
 
-fn answers(answer: Answer, reply: Reply) -> bool
+fn replies(answer: Answer, reply: Reply) -> bool
     ensures { λ r. ⌜ r ≡ same (replied answer) reply ⌝ }
 {
     is_same(reply_of(answer), reply)
@@ -89,33 +89,33 @@ pub fn matches(area: &mut [u8], call: Call, reply: Reply) -> bool
 {
     let op = call.op;
     match op {
-        1 => answers(carv_objects::open(area, call.first, call.second), reply),
-        2 => answers(
+        1 => replies(carv_objects::open(area, call.first, call.second), reply),
+        2 => replies(
             carv_objects::create(area, call.first, call.second, call.third == 1),
             reply,
         ),
-        3 => answers(
+        3 => replies(
             carv_objects::insert(area, call.first, call.second, call.third),
             reply,
         ),
-        4 => answers(
+        4 => replies(
             carv_objects::create_budget(area, call.first, call.second, call.third, call.fourth),
             reply,
         ),
-        5 => answers(
+        5 => replies(
             carv_objects::charge_more(area, call.first, call.second),
             reply,
         ),
-        6 => answers(carv_objects::uncharge(area, call.first, call.second), reply),
-        7 => answers(carv_objects::remove(area, call.first), reply),
-        8 => answers(carv_objects::refill(area, call.first, call.second), reply),
-        9 => answers(
+        6 => replies(carv_objects::uncharge(area, call.first, call.second), reply),
+        7 => replies(carv_objects::remove(area, call.first), reply),
+        8 => replies(carv_objects::refill(area, call.first, call.second), reply),
+        9 => replies(
             carv_objects::charge_cpu(area, call.first, call.second, call.third),
             reply,
         ),
-        10 => answers(carv_objects::pays_for_anything(area, call.first), reply),
-        11 => answers(carv_objects::account(area, call.first), reply),
-        12 => answers(carv_objects::charge_of(area, call.first), reply),
+        10 => replies(carv_objects::pays_for_anything(area, call.first), reply),
+        11 => replies(carv_objects::account(area, call.first), reply),
+        12 => replies(carv_objects::charge_of(area, call.first), reply),
         _ => false,
     }
 }

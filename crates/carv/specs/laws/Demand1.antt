@@ -7,7 +7,7 @@ use native.Mathlib.Omega.{arith}
 use lib.Dec.{eqb, leb}
 use lib.ListN.{length}
 use borrow.Author.Tests.{ne-eqb, leb-true}
-use Rattle.carv_area.specs.Table.{test}
+use Rattle.carv_area.specs.laws.Table.{test}
 use Rattle.carv_budget.specs.Account.{period}
 use Rattle.carv_budget.specs.laws.Account.{first, second}
 use Rattle.carv_scheduler.specs.declared.Answer.{Answer}

@@ -3,7 +3,7 @@ use mathlib.Core.Path.{_≡_, refl, sym, ap, _∙_, subst}
 use mathlib.Core.Bool.{true, false, true≢false}
 use mathlib.Core.List.{List, [], _∷_, map}
 use Prim.Native.Nat.{ℕ}
-use Rattle.carv_area.specs.Table.{test}
+use Rattle.carv_area.specs.laws.Table.{test}
 use Rattle.carv_objects_spec.specs.Book as objects
 use Rattle.carv_scheduler.specs.Answer.{number}
 use Rattle.carv_scheduler_spec.specs.Scheduler.{Board, BoardReply, opening}

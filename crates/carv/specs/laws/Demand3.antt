@@ -4,7 +4,7 @@ use mathlib.Core.Bool.{true, cond}
 use mathlib.Core.List.{List, [], _∷_, _++_}
 use Prim.Native.Nat.{ℕ, _≤_}
 use native.Mathlib.Omega.{arith}
-use Rattle.carv_area.specs.Table.{test}
+use Rattle.carv_area.specs.laws.Table.{test}
 use Rattle.carv_budget.specs.Account.{period}
 use Rattle.carv_objects_spec.specs.Registry.{is-budget}
 use Rattle.carv_objects_spec.specs.Book.{Differences, is-live, budget-of}

@@ -4,15 +4,16 @@ use mathlib.Core.Path.{_≡_, refl}
 use Prim.Native.Nat.{_-_, _≤_}
 use lib.ListN.{length}
 use lib.Seq.{paste, paste-zero}
-use Rattle.carv_area.specs.Words.{words}
-use Rattle.carv_area.specs.WordLaws.{length-words}
-use Rattle.carv_area.specs.Moves.{zeros, wipe-more}
+use Rattle.carv_area.specs.Words.{words, Writes}
+use Rattle.carv_area.specs.laws.Words.{length-words}
+use Rattle.carv_area.specs.Moves.{zeros}
+use Rattle.carv_area.specs.laws.Moves.{wipe-more}
 use borrow.Author.Needs.{needs}
 use Rattle.carv_area.proofs.clear.Statement.{statement}
 use Rattle.carv_area.proofs.clear.Tie as tie
 
 abbrev Inv-loop : tie.InvT-loop
-Inv-loop t₀ o n j₀ t j = (j ≤ n) × (length t ≡ length t₀) × (words t ≡ paste (words t₀) o (zeros n) j)
+Inv-loop t₀ o n j₀ t j = (j ≤ n) × (length t ≡ length t₀) × Writes t₀ t (paste (words t₀) o (zeros n) j)
 
 abbrev μ-loop : tie.MeasureT-loop
 μ-loop t₀ o n j₀ t j = n - j
@@ -23,7 +24,7 @@ clear-spec =
     (tie.spec
     Inv-loop
     μ-loop
-    (λ c. let a = c .before .args in (omega arith, refl, paste-zero (words (a .t .now)) (a .o) (zeros (a .n))))  -- loop-holds
+    (λ c. let a = c .before .args in (omega arith, refl, record { words = paste-zero (words (a .t .now)) (a .o) (zeros (a .n)); rest = refl }))  -- loop-holds
     (λ c. search needs)  -- add-put
     (λ c κs. search needs)  -- put-requires
     (λ c. search needs)  -- add-j
@@ -31,6 +32,6 @@ clear-spec =
     (λ c. let a = c .before .before .before .before .before .before .before .args in
     let l = words (a .t .now) in
     let s = wipe-more l (a .o) (a .n) (c .before .before .before .before .before .loop .j) (omega (arith, length-words (a .t .now))) (omega arith) in
-    (omega arith, search needs, cc))  -- loop-again
+    (omega arith, search needs, record { words = cc; rest = cc }))  -- loop-again
     (λ c. search needs)  -- same-length
     (λ c. let e : c .before .loop .j ≡ c .before .before .before .args .n = omega arith in rw e at (c .before .loop .inv .2)))  -- returns

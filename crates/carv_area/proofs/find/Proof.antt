@@ -1,8 +1,8 @@
 -- `carv_area::find` meets its contract. Assumes nothing.
 use native.Mathlib.Omega.{arith}
 use mathlib.Core.Path.{_∙_, sym}
-use Rattle.carv_area.specs.Keys.{find-there}
-use Rattle.carv_area.specs.Search.{absent}
+use Rattle.carv_area.specs.laws.Keys.{find-there}
+use Rattle.carv_area.specs.laws.Search.{absent}
 use borrow.Author.Needs.{needs}
 use Rattle.carv_area.proofs.find.Statement.{statement}
 use Rattle.carv_area.proofs.find.Tie as tie

@@ -1,7 +1,7 @@
 -- `carv_area::find_near` meets its contract. Assumes nothing.
 use native.Mathlib.Omega.{arith}
 use mathlib.Core.Path.{_∙_, sym}
-use Rattle.carv_area.specs.Keys.{find-there}
+use Rattle.carv_area.specs.laws.Keys.{find-there}
 use borrow.Author.Needs.{needs}
 use Rattle.carv_area.proofs.find_near.Statement.{statement}
 use Rattle.carv_area.proofs.find_near.Tie as tie

@@ -1,6 +1,6 @@
 -- `carv_area::get` meets its contract. Assumes nothing.
 use borrow.Author.Needs.{needs}
-use Rattle.carv_area.specs.WordLaws.{get-of}
+use Rattle.carv_area.specs.laws.Words.{get-of}
 use Rattle.carv_area.proofs.get.Statement.{statement}
 use Rattle.carv_area.proofs.get.Tie as tie
 

@@ -4,7 +4,8 @@ use mathlib.Core.Logic.{⊎-elim}
 use Prim.Native.Nat.{_/_}
 use Rattle.carv_area.specs.Words.{words}
 use Rattle.carv_area.specs.Keys.{keys}
-use Rattle.carv_area.specs.Search.{Bracket, go-right, go-left, rank-after, rank-here}
+use Rattle.carv_area.specs.Search.{Bracket}
+use Rattle.carv_area.specs.laws.Search.{go-right, go-left, rank-after, rank-here}
 use borrow.Author.Needs.{needs}
 use Rattle.carv_area.proofs.halve.Statement.{statement}
 use Rattle.carv_area.proofs.halve.Tie as tie

@@ -2,7 +2,7 @@
 use lib.ListN.{getD}
 use Rattle.carv_area.specs.Words.{words}
 use Rattle.carv_area.specs.Moves.{openRow}
-use Rattle.carv_area.specs.Search.{rows-cut, rows-few}
+use Rattle.carv_area.specs.laws.Search.{rows-cut, rows-few}
 use borrow.Author.Needs.{needs}
 use Rattle.carv_area.proofs.insert_row.Statement.{statement}
 use Rattle.carv_area.proofs.insert_row.Tie as tie
@@ -21,4 +21,4 @@ insert-row-spec =
     (λ c. let s = c .before .before .before .before .before .before .before .before in let r = rows-few (getD (words (s .args .t .now)) 0 0) (s .args .w) (s .pre .0) in search needs)  -- add-put
     (λ c κs. search needs)  -- put-requires
     (λ c. search needs)  -- same-length
-    (λ c. cc))  -- returns
+    (λ c. record { words = cc; rest = cc }))  -- returns

@@ -3,8 +3,8 @@ use mathlib.Core.Path.{_∙_, sym}
 use native.Mathlib.Omega.{arith}
 use lib.ListN.{getD}
 use Rattle.carv_area.specs.Words.{words}
-use Rattle.carv_area.specs.Keys.{getD-keys}
-use Rattle.carv_area.specs.Search.{row-within}
+use Rattle.carv_area.specs.laws.Keys.{getD-keys}
+use Rattle.carv_area.specs.laws.Search.{row-within}
 use borrow.Author.Needs.{needs}
 use Rattle.carv_area.proofs.key.Statement.{statement}
 use Rattle.carv_area.proofs.key.Tie as tie

@@ -1,6 +1,6 @@
 -- `carv_area::pull` meets its contract. Assumes nothing.
 use mathlib.Core.Path.{_∙_}
-use Rattle.carv_area.specs.Stored.{queue-at, queue-pull}
+use Rattle.carv_area.specs.laws.Stored.{queue-at, queue-pull}
 use borrow.Author.Needs.{needs}
 use Rattle.carv_area.proofs.pull.Statement.{statement}
 use Rattle.carv_area.proofs.pull.Tie as tie
@@ -14,4 +14,4 @@ pull-spec =
     (λ c κs. search needs)  -- remove-row-requires
     (λ c. search needs)  -- same-length
     (λ c. let s = c .before .before .before .before .before .before .before in
-    (c .before .before .before .before .get .ensures ∙ queue-at _ (s .args .i) (s .pre .1), queue-pull _ _ _ (s .pre .0) (s .args .i) (s .pre .1) (c .before .before .remove-row .ensures))))  -- returns
+    (c .before .before .before .before .get .ensures ∙ queue-at _ (s .args .i) (s .pre .1), (queue-pull _ _ _ (s .pre .0) (s .args .i) (s .pre .1) (c .before .before .remove-row .ensures .words), c .before .before .remove-row .ensures .rest))))  -- returns

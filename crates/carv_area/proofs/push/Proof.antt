@@ -1,6 +1,6 @@
 -- `carv_area::push` meets its contract. Assumes nothing.
 use native.Mathlib.Omega.{arith}
-use Rattle.carv_area.specs.Stored.{queue-push}
+use Rattle.carv_area.specs.laws.Stored.{queue-push}
 use borrow.Author.Needs.{needs}
 use Rattle.carv_area.proofs.push.Statement.{statement}
 use Rattle.carv_area.proofs.push.Tie as tie
@@ -15,4 +15,4 @@ push-spec =
     (λ c. search needs)  -- add-put-2
     (λ c κs. search needs)  -- put-requires-2
     (λ c. search needs)  -- same-length
-    (λ c. queue-push _ _ _ (c .before .before .before .before .before .before .before .before .before .before .before .pre .0) (c .before .before .before .before .before .before .before .before .before .before .before .args .v) _ _ (c .before .before .before .before .before .before .before .before .get .ensures) (omega arith) (c .before .before .before .before .before .before .put .ensures) (c .before .before .put2 .ensures)))  -- returns
+    (λ c. (queue-push _ _ _ (c .before .before .before .before .before .before .before .before .before .before .before .pre .0) (c .before .before .before .before .before .before .before .before .before .before .before .args .v) _ _ (c .before .before .before .before .before .before .before .before .get .ensures) (omega arith) (c .before .before .before .before .before .before .put .ensures .words) (c .before .before .put2 .ensures .words), cc)))  -- returns

@@ -1,6 +1,6 @@
 -- `carv_area::put` meets its contract. Assumes nothing.
 use borrow.Author.Needs.{needs}
-use Rattle.carv_area.specs.WordLaws.{put-of}
+use Rattle.carv_area.specs.laws.Words.{put-of}
 use Rattle.carv_area.proofs.put.Statement.{statement}
 use Rattle.carv_area.proofs.put.Tie as tie
 

@@ -1,7 +1,7 @@
 -- `carv_area::rank` meets its contract. Assumes nothing.
 use native.Mathlib.Omega.{arith}
 use mathlib.Core.Path.{_∙_, sym}
-use Rattle.carv_area.specs.Search.{rank-none, rank-first, rank-last, window, window-some}
+use Rattle.carv_area.specs.laws.Search.{rank-none, rank-first, rank-last, window, window-some}
 use borrow.Author.Needs.{needs}
 use Rattle.carv_area.proofs.rank.Statement.{statement}
 use Rattle.carv_area.proofs.rank.Tie as tie

@@ -1,6 +1,6 @@
 -- `carv_area::remove_row` meets its contract. Assumes nothing.
 use Rattle.carv_area.specs.Moves.{cutRow}
-use Rattle.carv_area.specs.Search.{row-cut}
+use Rattle.carv_area.specs.laws.Search.{row-cut}
 use borrow.Author.Needs.{needs}
 use Rattle.carv_area.proofs.remove_row.Statement.{statement}
 use Rattle.carv_area.proofs.remove_row.Tie as tie
@@ -22,4 +22,4 @@ remove-row-spec =
     (λ c. search needs)  -- sub-put
     (λ c κs. search needs)  -- put-requires
     (λ c. search needs)  -- same-length
-    (λ c. cc))  -- returns
+    (λ c. record { words = cc; rest = cc }))  -- returns

@@ -6,8 +6,9 @@ use Prim.Native.Nat.{_-_}
 use lib.ListN.{drop}
 use lib.Dec.{eqb}
 use Rattle.carv_area.specs.Words.{words}
-use Rattle.carv_area.specs.WordLaws.{length-words}
-use Rattle.carv_area.specs.Zero.{allZero, zero-more, zero-done}
+use Rattle.carv_area.specs.laws.Words.{length-words}
+use Rattle.carv_area.specs.Zero.{allZero}
+use Rattle.carv_area.specs.laws.Zero.{zero-more, zero-done}
 use borrow.Author.Needs.{needs}
 use Rattle.carv_area.proofs.zero_from.Statement.{statement}
 use Rattle.carv_area.proofs.zero_from.Tie as tie

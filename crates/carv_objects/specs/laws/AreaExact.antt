@@ -8,11 +8,13 @@ use native.Mathlib.Omega.{arith}
 use lib.ListN.{length, getD, drop, List·getD-eq-default}
 use lib.Seq.{ext-getD, getD-take, getD-drop}
 use Rattle.carv_area.specs.Table.{Row}
-use Rattle.carv_area.specs.Lists.{lt-or-ge}
+use Rattle.carv_area.specs.laws.Lists.{lt-or-ge}
 use Rattle.carv_area.specs.Words.{words}
-use Rattle.carv_area.specs.WordLaws.{length-words, words-inj}
-use Rattle.carv_area.specs.Parts.{part, length-part, cut, last}
-use Rattle.carv_area.specs.Rows.{Holds, holds-inj}
+use Rattle.carv_area.specs.laws.Words.{length-words, words-inj}
+use Rattle.carv_area.specs.Parts.{part}
+use Rattle.carv_area.specs.laws.Parts.{length-part, cut, last}
+use Rattle.carv_area.specs.Rows.{Holds}
+use Rattle.carv_area.specs.laws.Rows.{holds-inj}
 use Rattle.carv_objects_spec.specs.declared.Entry.{Entry}
 use Rattle.carv_objects_spec.specs.Registry.{Registry}
 use Rattle.carv_objects.specs.Area.{head, table, fields, decode, sound-area}

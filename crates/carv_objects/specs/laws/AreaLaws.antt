@@ -10,14 +10,19 @@ use lib.ListN.{length, getD, take, drop, take-append-drop}
 use lib.Seq.{ext-getD, getD-take, length-take-le, drop-at}
 use borrow.Author.Tests.{eqb-true, eq-eqb}
 use Rattle.carv_area.specs.Table.{Row}
-use Rattle.carv_area.specs.Lists.{tab, length-tab, getD-tab}
+use Rattle.carv_area.specs.Lists.{tab}
+use Rattle.carv_area.specs.laws.Lists.{length-tab, getD-tab}
 use Rattle.carv_area.specs.Words.{words}
-use Rattle.carv_area.specs.WordLaws.{length-words}
+use Rattle.carv_area.specs.laws.Words.{length-words}
 use Rattle.carv_area.specs.Moves.{zeros}
-use Rattle.carv_area.specs.Parts.{part, length-part}
-use Rattle.carv_area.specs.Zero.{allZero, all-zero, zeros-zero}
-use Rattle.carv_area.specs.Rows.{Holds, flat, hold, length-flat, getD-flat, holds-word}
-use Rattle.carv_area.specs.Stored.{Stored, stored, rows-are}
+use Rattle.carv_area.specs.Parts.{part}
+use Rattle.carv_area.specs.laws.Parts.{length-part}
+use Rattle.carv_area.specs.Zero.{allZero}
+use Rattle.carv_area.specs.laws.Zero.{all-zero, zeros-zero}
+use Rattle.carv_area.specs.Rows.{Holds, flat}
+use Rattle.carv_area.specs.laws.Rows.{hold, length-flat, getD-flat, holds-word}
+use Rattle.carv_area.specs.Stored.{Stored}
+use Rattle.carv_area.specs.laws.Stored.{stored, rows-are}
 use Rattle.carv_budget.specs.laws.Account.{first, second}
 use Rattle.carv_objects_spec.specs.declared.Entry.{Entry}
 use Rattle.carv_objects_spec.specs.Registry.{Registry}

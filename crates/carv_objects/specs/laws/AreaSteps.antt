@@ -9,14 +9,17 @@ use mathlib.Core.Path.{_≡_, refl, sym, ap, _∙_, subst}
 use mathlib.Core.List.{List, [], _∷_, _++_}
 use lib.ListN.{length, getD, set}
 use lib.Seq.{getD-set-same}
-use Rattle.carv_area.specs.Table.{Row, Rising, rising-weaken, rising-snoc}
+use Rattle.carv_area.specs.Table.{Row, Rising}
+use Rattle.carv_area.specs.laws.Table.{rising-weaken, rising-snoc}
 use Rattle.carv_area.specs.Words.{words}
-use Rattle.carv_area.specs.WordLaws.{length-words}
+use Rattle.carv_area.specs.laws.Words.{length-words}
 use Rattle.carv_area.specs.Parts.{part, putPart}
+use Rattle.carv_area.specs.laws.Parts.{part-same, part-after}
 use Rattle.carv_area.specs.Moves.{cutRow}
 use Rattle.carv_area.specs.Rows.{removeAt}
 use Rattle.carv_area.specs.Keys.{keys, findIn}
-use Rattle.carv_area.specs.Stored.{Stored, Keyed, stored-room, stored-remove}
+use Rattle.carv_area.specs.Stored.{Stored, Keyed}
+use Rattle.carv_area.specs.laws.Stored.{stored-room, stored-remove}
 use Rattle.carv_area.specs.Lookup.{Located, Here, Gone}
 use Rattle.carv_area.specs.declared.Found.{Found}
 use Rattle.carv_area.specs.declared.Found.the-variants.{At, Nothing}
@@ -26,7 +29,7 @@ use Rattle.carv_objects_spec.specs.declared.Entry.{Entry}
 use Rattle.carv_objects_spec.specs.Registry.{Registry, or-missing, found, entry, has, is-budget, on-account, on-charge, budget, object, add, has-place, has-next}
 use Rattle.carv_objects.specs.Area.{head, table, fields, row-at, rows-in, decode}
 use Rattle.carv_objects.specs.laws.Rows.{row, no-row, wide, set-row, row-at-is, rows-keyed, rows-located, row-room, row-written, row-appended}
-use Rattle.carv_objects.specs.laws.Formed.{WellFormed, Leaves, leaves-as, length-head, head-written, table-written}
+use Rattle.carv_objects.specs.laws.Formed.{WellFormed, Leaves, leaves, leaves-as, length-head, table-written}
 
 abbrev pub with-next : ℕ → Registry → Registry
 with-next n r = record { next = n; rows = r .rows }
@@ -86,14 +89,25 @@ module _ (a : List ℕ) (k : WellFormed a) where
     pub entry-is : (x : Entry) → x ≡ row-at (words (table a)) i .it → x ≡ getD (decode a .rows) i no-row .it
     entry-is x e = e ∙ ap (λ (r : Row Entry). r .it) at-is
 
--- What is left where one part was written, p.
-module _ (a : List ℕ) (k : WellFormed a) (p : List ℕ) where
-  pub next-set : (n : ℕ) → Rising 1 n (decode a .rows) → length p ≡ 8 → words p ≡ set (words (head a)) 0 n → Leaves (putPart 0 8 a p) (with-next n (decode a))
-  unfolding head
-  next-set n up z e =
-      let w : length (words (part 0 8 a)) ≡ 1 = length-words (part 0 8 a) ∙ ap (λ (x : ℕ). x / 8) (length-head a (k .size)) in
-      head-written a k p n z (ap (λ (l : List ℕ). getD l 0 0) e ∙ getD-set-same (words (part 0 8 a)) 0 n 0 (omega arith)) up
+-- `set_next` was lent the first word, and left p
+pub next-put : (a p : List ℕ) → length a ≡ 45_072 → length p ≡ 8 → (n : ℕ) → words p ≡ set (words (head a)) 0 n
+    → (decode (putPart 0 8 a p) .next ≡ n) × (table (putPart 0 8 a p) ≡ table a)
+unfolding head table
+next-put a p size z n e =
+    let fits : 0 + 8 ≤ length a = omega arith in
+    let gap : 0 + 8 ≤ 8 = omega arith in
+    let w : length (words (part 0 8 a)) ≡ 1 = length-words (part 0 8 a) ∙ ap (λ (x : ℕ). x / 8) (length-head a size) in (
+      ap (λ (l : List ℕ). getD (words l) 0 0) (part-same 0 8 a p fits z) ∙ ap (λ (l : List ℕ). getD l 0 0) e ∙ getD-set-same (words (part 0 8 a)) 0 n 0 (omega arith),
+      part-after 0 8 a p fits z 8 45_064 gap,
+    )
 
+-- and what that leaves of a well-formed area
+pub next-set : (a a′ : List ℕ) → WellFormed a → length a′ ≡ length a → (n : ℕ) → (decode a′ .next ≡ n) × (table a′ ≡ table a) → Rising 1 n (decode a .rows)
+    → Leaves a′ (with-next n (decode a))
+next-set a a′ k z n q up = leaves a′ _ (record { size = z ∙ k .size; next = q .0; rows = rw (q .1) (k .rows); rising = up })
+
+-- What is left where the table was written, p.
+module _ (a : List ℕ) (k : WellFormed a) (p : List ℕ) where
   module _ (z : length p ≡ 45_064) where
     pub entry-set : (i x : ℕ) (e : Entry) → i < length (decode a .rows) → getD (decode a .rows) i no-row .id ≡ x → words p ≡ set-row (words (table a)) i (row x e)
         → Leaves (putPart 8 45_064 a p) (with-rows (set (decode a .rows) i (row x e)) (decode a))

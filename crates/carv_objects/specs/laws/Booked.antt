@@ -5,7 +5,7 @@ use Prim.Native.Nat.{ℕ, _≤_}
 use lib.Dec.{leb}
 use borrow.Author.Tests.{le-leb}
 use mathlib.Core.Option.{some}
-use Rattle.carv_area.specs.Table.{test}
+use Rattle.carv_area.specs.laws.Table.{test}
 use Rattle.carv_budget.specs.declared.Account.{Account}
 use Rattle.carv_budget.specs.declared.Answer.{Answer}
 use Rattle.carv_budget.specs.declared.Answer.the-variants.{Done, Renewed, NotDue, Unsound, CpuBudgetExceedsPeriod, MemoryUnderflow, CpuLimitReached, MemoryLimitReached, CpuLimitExceeded, MemoryLimitExceeded, ReservationUnderflow}
@@ -60,22 +60,25 @@ renewal CpuLimitExceeded = answer.NotDue
 renewal MemoryLimitExceeded = answer.NotDue
 renewal ReservationUnderflow = answer.NotDue
 
--- An outcome o of one test b: is it done, and with which account?
-module _ (b : Bool) (x y : Account) (e : Answer) (n : done e ≡ false) (o : Outcome) (is : o ≡ cond b (account.outcome Done x) (account.outcome e y)) (d : Bool) (said : d ≡ done (o .answer)) where
-  pub books-yes : d ≡ true → Books b x (booked.Yes (o .account))
-  books-yes p = test b
-      (λ q. let z : o ≡ account.outcome Done x = rw q at is in (q, ap (λ (v : Outcome). v .account) z))
-      (λ q. let z : o ≡ account.outcome e y = rw q at is in absurd (false≢true (sym n ∙ sym (ap (λ (v : Outcome). done (v .answer)) z) ∙ sym said ∙ p)))
-
-  pub books-no : d ≡ false → Books b x booked.No
-  books-no p = test b
-      (λ q. let z : o ≡ account.outcome Done x = rw q at is in absurd (true≢false (sym (ap (λ (v : Outcome). done (v .answer)) z) ∙ sym said ∙ p)))
+-- An outcome o of one test b: what is booked of it, by its answer, is x where the test holds.
+module _ (b : Bool) (x y : Account) (e : Answer) (n : done e ≡ false) (o : Outcome) (is : o ≡ cond b (account.outcome Done x) (account.outcome e y)) where
+  books : (r : Booked) → Books (done (o .answer)) (o .account) r → Books b x r
+  books (booked.Yes v) h = test b
+      (λ q. let z : o ≡ account.outcome Done x = rw q at is in (q, h .1 ∙ ap (λ (w : Outcome). w .account) z))
+      (λ q. let z : o ≡ account.outcome e y = rw q at is in absurd (false≢true (sym n ∙ sym (ap (λ (w : Outcome). done (w .answer)) z) ∙ h .0)))
+  books booked.No h = test b
+      (λ q. let z : o ≡ account.outcome Done x = rw q at is in absurd (true≢false (sym (ap (λ (w : Outcome). done (w .answer)) z) ∙ h)))
       (λ q. q)
+
+pub open-books : (cpu memory : ℕ) (o : Outcome) → o ≡ account.open-account cpu memory 0 → (r : Booked) → Books (done (o .answer)) (o .account) r
+    → Books (leb cpu account.period) (account.fresh cpu memory 0) r
+open-books cpu memory o e = books (leb cpu account.period) (account.fresh cpu memory 0) account.blank CpuBudgetExceedsPeriod refl o e
 
 -- The same of the calls.
 module _ (a : Account) (h : account.sound a ≡ true) where
-  pub charge-is : (bytes : ℕ) (o : Outcome) → o ≡ account.charge-memory a bytes → o ≡ cond (leb bytes (account.free a)) (account.outcome Done (account.charge a bytes)) (account.outcome MemoryLimitReached a)
-  charge-is bytes o e = e ∙ rw h
+  pub charge-books : (bytes : ℕ) (o : Outcome) → o ≡ account.charge-memory a bytes → (r : Booked) → Books (done (o .answer)) (o .account) r
+      → Books (leb bytes (account.free a)) (account.charge a bytes) r
+  charge-books bytes o e = books (leb bytes (account.free a)) (account.charge a bytes) a MemoryLimitReached refl o (e ∙ rw h)
 
   pub credit-is : (bytes : ℕ) (o : Outcome) → o ≡ account.release-memory a bytes → bytes ≤ a .«memory_used» → o .account ≡ account.credit a bytes
   credit-is bytes o e p = ap (λ (v : Outcome). v .account) e ∙ rw (h, le-leb bytes (a .«memory_used») p)
@@ -88,9 +91,14 @@ module _ (a : Account) (h : account.sound a ≡ true) where
   unfolding account.spent
   spend-is ns time o e = e ∙ rw h
 
-  pub return-is : (child : Account) → account.sound child ≡ true → (o : Outcome) → o ≡ account.release-child a child
-      → o ≡ cond (account.returnable a child) (account.outcome Done (account.return a child)) (account.outcome ReservationUnderflow a)
-  return-is child k o e = e ∙ rw (h, k)
+  pub spend-books : (ns time : ℕ) (o : Outcome) → o ≡ account.charge-cpu a ns time → (r : Booked) → Books (done (o .answer)) (o .account) r
+      → Books (leb ns (account.renew a time .«cpu_left»)) (account.spend (account.renew a time) ns) r
+  spend-books ns time o e =
+      books (leb ns (account.renew a time .«cpu_left»)) (account.spend (account.renew a time) ns) (account.renew a time) CpuLimitReached refl o (spend-is ns time o e)
+
+  pub return-books : (child : Account) → account.sound child ≡ true → (o : Outcome) → o ≡ account.release-child a child → (r : Booked) → Books (done (o .answer)) (o .account) r
+      → Books (account.returnable a child) (account.return a child) r
+  return-books child k o e = books (account.returnable a child) (account.return a child) a ReservationUnderflow refl o (e ∙ rw (h, k))
 
   module _ (cpu memory time : ℕ) (o : CarveOut) (e : o ≡ account.carve-out a cpu memory time) (d : Bool) (said : d ≡ done (o .answer)) where
     carve-is : o ≡ account.carved (account.renew a time) cpu memory

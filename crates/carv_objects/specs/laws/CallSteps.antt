@@ -12,12 +12,15 @@ use lib.ListN.{length, getD, length-map, List·getD-map, drop-of-length-le}
 use lib.ListN as list
 use lib.Seq.{drop-cons}
 use borrow.Author.Tests.{eqb-true, eq-eqb, ne-eqb, leb-true, le-leb, lt-leb}
-use Rattle.carv_area.specs.Table.{Row, Rising, at, alter, erase, test, length-alter}
+use Rattle.carv_area.specs.Table.{Row, Rising, at, alter, erase}
+use Rattle.carv_area.specs.laws.Table.{test, length-alter}
 use Rattle.carv_area.specs.Words.{words}
-use Rattle.carv_area.specs.WordLaws.{word-below}
+use Rattle.carv_area.specs.laws.Words.{word-below}
 use Rattle.carv_area.specs.Rows.{removeAt}
-use Rattle.carv_area.specs.Keys.{findIn, find-there}
-use Rattle.carv_area.specs.Lookup.{Here, Located, ids, located, rising-ids}
+use Rattle.carv_area.specs.Keys.{findIn}
+use Rattle.carv_area.specs.laws.Keys.{find-there}
+use Rattle.carv_area.specs.Lookup.{Here, Located}
+use Rattle.carv_area.specs.laws.Lookup.{ids, located, rising-ids}
 use Rattle.carv_area.specs.declared.Found.{Found}
 use Rattle.carv_area.specs.declared.Found.the-variants.{At, Nothing}
 use Rattle.carv_budget.specs.declared.Account.{Account}

@@ -5,7 +5,8 @@ use mathlib.Core.List.{List}
 use Prim.Native.Nat.{ℕ}
 use lib.ListN.{getD}
 use lib.Dec.{leb}
-use Rattle.carv_area.specs.Table.{Row, length-alter}
+use Rattle.carv_area.specs.Table.{Row}
+use Rattle.carv_area.specs.laws.Table.{length-alter}
 use Rattle.carv_area.specs.Lookup.{Here}
 use Rattle.carv_budget.specs.declared.Account.{Account}
 use Rattle.carv_budget.specs.Account as account

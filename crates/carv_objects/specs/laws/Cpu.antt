@@ -7,7 +7,7 @@ use native.Mathlib.Omega.{arith}
 use lib.Dec.{eqb, ltb, leb}
 use lib.ListN.{getD}
 use borrow.Author.Tests.{lt-ltb, le-ltb, le-leb}
-use Rattle.carv_area.specs.Table.{at-alter}
+use Rattle.carv_area.specs.laws.Table.{at-alter}
 use Rattle.carv_area.specs.Lookup.{Here}
 use Rattle.carv_budget.specs.declared.Account.{Account}
 use Rattle.carv_budget.specs.declared.Outcome.{Outcome}

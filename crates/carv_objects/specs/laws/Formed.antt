@@ -7,7 +7,8 @@ use mathlib.Core.List.{List, [], _∷_, _++_}
 use lib.ListN.{length, getD}
 use Rattle.carv_area.specs.Table.{Row, Rising}
 use Rattle.carv_area.specs.Words.{words}
-use Rattle.carv_area.specs.Parts.{part, putPart, length-part, length-put, part-same, part-before, part-after}
+use Rattle.carv_area.specs.Parts.{part, putPart}
+use Rattle.carv_area.specs.laws.Parts.{length-part, length-put, part-same, part-before}
 use Rattle.carv_area.specs.Stored.{Stored}
 use Rattle.carv_objects_spec.specs.declared.Entry.{Entry}
 use Rattle.carv_objects_spec.specs.Registry.{Registry}
@@ -52,19 +53,6 @@ length-table a z = length-part 8 45_064 a (omega arith)
 
 -- after a call that was lent a part
 module _ (a : List ℕ) (k : WellFormed a) (p : List ℕ) where
-  pub head-written : (n : ℕ) → length p ≡ 8 → getD (words p) 0 0 ≡ n → Rising 1 n (decode a .rows) → Leaves (putPart 0 8 a p) (record { next = n; rows = decode a .rows })
-  unfolding head table
-  head-written n z e up =
-      let s = k .size in
-      let fits : 0 + 8 ≤ length a = omega arith in
-      let gap : 0 + 8 ≤ 8 = omega arith in
-      leaves (putPart 0 8 a p) _ (record {
-        size = length-put 0 8 a p fits z ∙ k .size;
-        next = ap (λ (l : List ℕ). getD (words l) 0 0) (part-same 0 8 a p fits z) ∙ e;
-        rows = rw (part-after 0 8 a p fits z 8 45_064 gap) (k .rows);
-        rising = up;
-      })
-
   pub table-written : (rows : List (Row Entry)) → length p ≡ 45_064 → Stored fields 11 p rows → Rising 1 (decode a .next) rows
       → Leaves (putPart 8 45_064 a p) (record { next = decode a .next; rows = rows })
   unfolding head table

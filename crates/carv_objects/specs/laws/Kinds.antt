@@ -5,7 +5,7 @@ use Prim.Native.Nat.{ℕ, _+_, _≤_, _<_, suc-le-suc}
 use native.Mathlib.Omega.{arith}
 use lib.Dec.{leb}
 use borrow.Author.Tests.{leb-true, lt-leb}
-use Rattle.carv_area.specs.Table.{test}
+use Rattle.carv_area.specs.laws.Table.{test}
 use Rattle.carv_budget.specs.laws.Account.{not-first, not-second}
 use Rattle.carv_objects.specs.declared.kinds.Kind.{Kind}
 use Rattle.carv_objects.specs.declared.kinds.Kind.the-variants.{Thread, AddressSpace, Frame, Endpoint, Notification, Budget, Reply, Irq, IrqControl}

@@ -5,23 +5,26 @@ use mathlib.Core.List.{List, [], _∷_, _++_, append-nil}
 use Prim.Native.Nat.{ℕ, suc, _+_, _*_, _-_, _/_, _≤_}
 use native.Mathlib.Omega.{arith}
 use lib.Dec.{leb}
-use lib.ListN.{length, getD, set, take, drop, drop-of-length-le, length-replicate}
-use lib.Seq.{take-all, getD-set-same}
+use lib.ListN.{length, take, drop, drop-of-length-le, length-replicate}
+use lib.Seq.{take-all}
 use borrow.Author.Tests.{eqb-true, eqb-false, leb-true}
 use Rattle.carv_area.specs.Table.{Row}
 use Rattle.carv_area.specs.Words.{words}
-use Rattle.carv_area.specs.WordLaws.{length-words}
+use Rattle.carv_area.specs.laws.Words.{length-words}
 use Rattle.carv_area.specs.Moves.{zeros, wipe}
-use Rattle.carv_area.specs.Parts.{part, putPart, length-part, part-same, part-after}
-use Rattle.carv_area.specs.Rows.{Holds, flat, hold}
-use Rattle.carv_area.specs.Stored.{Stored, stored}
+use Rattle.carv_area.specs.Parts.{putPart}
+use Rattle.carv_area.specs.laws.Parts.{part-same}
+use Rattle.carv_area.specs.Rows.{Holds, flat}
+use Rattle.carv_area.specs.laws.Rows.{hold}
+use Rattle.carv_area.specs.Stored.{Stored}
+use Rattle.carv_area.specs.laws.Stored.{stored}
 use Rattle.carv_budget.specs.declared.Account.{Account}
 use Rattle.carv_budget.specs.Account.{period, fresh}
 use Rattle.carv_objects_spec.specs.declared.Entry.{Entry}
 use Rattle.carv_objects.specs.declared.Answer.the-variants.{Done, Refused}
 use Rattle.carv_objects_spec.specs.Registry.{Registry, opening}
 use Rattle.carv_objects_spec.specs.laws.Kept.{opening-sound}
-use Rattle.carv_objects.specs.Area.{head, table, fields, rows-in, decode, Opened}
+use Rattle.carv_objects.specs.Area.{table, fields, rows-in, decode, Opened}
 use Rattle.carv_objects.specs.laws.AreaLaws.{formed-is}
 use Rattle.carv_objects.specs.laws.Rows.{row, wide, rows-in-are}
 use Rattle.carv_objects.specs.laws.Formed.{Formed}
@@ -64,21 +67,11 @@ module _ (t t′ : List ℕ) (z : length t ≡ 45_064) (n : ℕ) (en : n ≡ len
   pub only-row : (t″ : List ℕ) (r : Row Entry) → Stored fields 11 t″ (rows-in (words t′) ++ (r ∷ [])) → Stored fields 11 t″ (r ∷ [])
   only-row t″ r h = subst (λ (xs : List (Row Entry)). Stored fields 11 t″ (xs ++ (r ∷ []))) no-rows h
 
--- one part of the area a is written, p
-module _ (a p : List ℕ) (size : length a ≡ 45_072) where
-  pub table-put : length p ≡ 45_064 → (rows : List (Row Entry)) → Stored fields 11 p rows → Stored fields 11 (table (putPart 8 45_064 a p)) rows
-  unfolding table
-  table-put z rows h = let fits : 8 + 45_064 ≤ length a = omega arith in rw (part-same 8 45_064 a p fits z) h
-
-  pub next-put : length p ≡ 8 → (n : ℕ) → words p ≡ set (words (head a)) 0 n → (decode (putPart 0 8 a p) .next ≡ n) × (table (putPart 0 8 a p) ≡ table a)
-  unfolding head table
-  next-put z n e =
-      let fits : 0 + 8 ≤ length a = omega arith in
-      let gap : 0 + 8 ≤ 8 = omega arith in
-      let w : length (words (part 0 8 a)) ≡ 1 = length-words (part 0 8 a) ∙ ap (λ (x : ℕ). x / 8) (length-part 0 8 a fits) in (
-        ap (λ (l : List ℕ). getD (words l) 0 0) (part-same 0 8 a p fits z) ∙ ap (λ (l : List ℕ). getD l 0 0) e ∙ getD-set-same (words (part 0 8 a)) 0 n 0 (omega arith),
-        part-after 0 8 a p fits z 8 45_064 gap,
-      )
+-- the table of the area a is written, p
+pub table-put : (a p : List ℕ) → length a ≡ 45_072 → length p ≡ 45_064 → (rows : List (Row Entry)) → Stored fields 11 p rows
+    → Stored fields 11 (table (putPart 8 45_064 a p)) rows
+unfolding table
+table-put a p size z rows h = let fits : 8 + 45_064 ≤ length a = omega arith in rw (part-same 8 45_064 a p fits z) h
 
 -- the table and then the next id are written
 pub start-formed : (a₁ a₂ : List ℕ) (y : Account) → length a₂ ≡ 45_072 → Stored fields 11 (table a₁) (row 1 (root y) ∷ []) → (decode a₂ .next ≡ 2) × (table a₂ ≡ table a₁)

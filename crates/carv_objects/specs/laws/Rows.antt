@@ -9,10 +9,12 @@ use lib.Seq.{sets}
 use Rattle.carv_area.specs.Table.{Row, Rising}
 use Rattle.carv_area.specs.Lists.{tab}
 use Rattle.carv_area.specs.Words.{words}
-use Rattle.carv_area.specs.Rows.{Holds, holds-word}
+use Rattle.carv_area.specs.Rows.{Holds}
+use Rattle.carv_area.specs.laws.Rows.{holds-word}
 use Rattle.carv_area.specs.Keys.{keys, findIn}
-use Rattle.carv_area.specs.Stored.{Stored, Keyed, rows-are, stored-set, stored-append}
-use Rattle.carv_area.specs.Lookup as lookup
+use Rattle.carv_area.specs.Stored.{Stored, Keyed}
+use Rattle.carv_area.specs.laws.Stored.{rows-are, stored-set, stored-append}
+use Rattle.carv_area.specs.laws.Lookup as lookup
 use Rattle.carv_area.specs.Lookup.{Located}
 use Rattle.carv_area.specs.declared.Found.{Found}
 use Rattle.carv_budget.specs.declared.Account.{Account}

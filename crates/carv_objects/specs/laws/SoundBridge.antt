@@ -10,9 +10,11 @@ use native.Mathlib.Omega.{arith}
 use lib.Dec.{eqb}
 use lib.ListN.{length, getD, drop}
 use borrow.Author.Tests.{eqb-true, eqb-false, eq-eqb, ne-eqb}
-use Rattle.carv_area.specs.Table as Table
-use Rattle.carv_area.specs.Table.{Row, at, Rising, test}
-use Rattle.carv_area.specs.Lists.{lt-or-ge, tab, length-tab}
+use Rattle.carv_area.specs.laws.Table as Table
+use Rattle.carv_area.specs.Table.{Row, at, Rising}
+use Rattle.carv_area.specs.laws.Table.{test}
+use Rattle.carv_area.specs.Lists.{tab}
+use Rattle.carv_area.specs.laws.Lists.{lt-or-ge, length-tab}
 use Rattle.carv_area.specs.Words.{words}
 use Rattle.carv_area.specs.Zero.{allZero}
 use Rattle.carv_budget.specs.laws.Account.{first, second}

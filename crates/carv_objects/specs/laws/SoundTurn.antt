@@ -11,16 +11,20 @@ use lib.Dec.{eqb}
 use lib.ListN.{length, getD, set, length-set, length-replicate, getD-replicate, List·getD-eq-default}
 use lib.Seq.{getD-set-same, getD-set-other, ext-getD}
 use borrow.Author.Tests.{eq-eqb, ne-eqb}
-use Rattle.carv_area.specs.Table as Table
+use Rattle.carv_area.specs.laws.Table as Table
 use Rattle.carv_area.specs.Table.{Row, total}
-use Rattle.carv_area.specs.Lists.{lt-or-ge, apart, same-or-not, tab}
+use Rattle.carv_area.specs.Lists.{tab}
+use Rattle.carv_area.specs.laws.Lists.{lt-or-ge, apart, same-or-not}
 use Rattle.carv_area.specs.Moves.{zeros}
-use Rattle.carv_area.specs.Zero.{allZero, all-zero, zeros-zero}
+use Rattle.carv_area.specs.Zero.{allZero}
+use Rattle.carv_area.specs.laws.Zero.{all-zero, zeros-zero}
+use Rattle.carv_area.specs.declared.Found.{Found}
+use Rattle.carv_area.specs.declared.Found.the-variants.{At, Nothing}
 use Rattle.carv_budget.specs.declared.Account.{Account}
 use Rattle.carv_objects_spec.specs.declared.Entry.{Entry}
 use Rattle.carv_objects_spec.specs.Sound.{is-child, charge-by, memory-by, cpu-by}
 use Rattle.carv_objects.specs.Area.{row-at}
-use Rattle.carv_objects.specs.laws.SoundWalk.{id-at, entry-at, Plain, Paid, Front, Left, Rise, Walk, Sums, Whole, Took, ReservedFor, used, memory-reserved, cpu-reserved}
+use Rattle.carv_objects.specs.laws.SoundWalk.{id-at, entry-at, Plain, Paid, Owner, Front, Left, Rise, Walk, Sums, Whole, Took, ReservedFor, used, memory-reserved, cpu-reserved}
 
 -- ---- the order of the rows
 
@@ -52,6 +56,18 @@ in-place {w} {next} {i} {j} p = ⊎-elim
     (λ (z : i < 1). omega (arith, p .first (omega arith)))
     (λ (z : 1 ≤ i). omega (arith, p .later (i - 1) (omega arith)))
     (lt-or-ge i 1)
+
+-- the payer that was found
+pub owner-here : (w : List ℕ) (next i : ℕ) (f : Found) → Owner w next i f → (j : ℕ) → f ≡ At j → Paid w next i j
+owner-here w next i f h j e = subst (Owner w next i) e h
+
+-- or none
+pub owner-none : (w : List ℕ) (next i : ℕ) (f : Found) → Owner w next i f → f ≡ Nothing → (j : ℕ) → Paid w next i j → ⊥
+owner-none w next i f h e = subst (Owner w next i) e h
+
+-- and its figures can be reached
+pub in-figures : (w : List ℕ) (next i j : ℕ) → Paid w next i j → i < 512 → (xs : List ℕ) (y : ℕ) → length xs ≡ 512 → j < length (set xs i y)
+in-figures w next i j P low xs y size = rw length-set (omega (arith, in-place P))
 
 -- ---- sums over the first rows
 

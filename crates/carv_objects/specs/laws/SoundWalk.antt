@@ -7,6 +7,8 @@ use lib.ListN.{length, getD, set, drop}
 use Rattle.carv_area.specs.Table.{total}
 use Rattle.carv_area.specs.Lists.{tab}
 use Rattle.carv_area.specs.Zero.{allZero}
+use Rattle.carv_area.specs.declared.Found.{Found}
+use Rattle.carv_area.specs.declared.Found.the-variants.{At, Nothing}
 use Rattle.carv_budget.specs.declared.Account.{Account}
 use Rattle.carv_budget.specs.Account as account
 use Rattle.carv_objects_spec.specs.declared.Entry.{Entry}
@@ -46,17 +48,15 @@ pub record Paid (w : List ℕ) (next i j : ℕ) : Type 0 where
 abbrev pub Rise : List ℕ → ℕ → Type 0
 Rise w i = (j k : ℕ) → j < k → k < i → id-at w j < id-at w k
 
--- r is the place below i with the id p, if there is one; else r is i
-pub record Place (w : List ℕ) (i p r : ℕ) : Type 0 where
-  pub most : r ≤ i
-  pub found : r < i → id-at w r ≡ p
-  pub none : i ≤ r → (j : ℕ) → j < i → id-at w j ≡ p → ⊥
+-- what is found is the place below i with the id p
+abbrev pub Place : List ℕ → (i p : ℕ) → Found → Type 0
+Place w i p (At r) = (r < i) × (id-at w r ≡ p)
+Place w i p Nothing = (j : ℕ) → j < i → id-at w j ≡ p → ⊥
 
--- r is the place of row i's payer, if row i fits; else r is 512
-pub record Owner (w : List ℕ) (next i r : ℕ) : Type 0 where
-  pub most : r ≤ 512
-  pub is : r < 512 → Paid w next i r
-  pub none : 512 ≤ r → (j : ℕ) → Paid w next i j → ⊥
+-- what is found is the place of row i's payer, if row i fits
+abbrev pub Owner : List ℕ → (next i : ℕ) → Found → Type 0
+Owner w next i (At r) = Paid w next i r
+Owner w next i Nothing = (j : ℕ) → Paid w next i j → ⊥
 
 -- xs has, for each row below i, what is left of the figure f when the weights v of the rows below i are taken off; then zeros
 pub record Left (v : ℕ → ℕ → Entry → ℕ) (f : Account → ℕ) (w : List ℕ) (i : ℕ) (xs : List ℕ) : Type 0 where

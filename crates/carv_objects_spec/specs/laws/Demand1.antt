@@ -5,7 +5,7 @@ use mathlib.Core.Option.{Option, none, some}
 use Prim.Native.Nat.{ℕ, _≤_}
 use native.Mathlib.Omega.{arith}
 use lib.Dec.{eqb, leb}
-use Rattle.carv_area.specs.Table.{test}
+use Rattle.carv_area.specs.laws.Table.{test}
 use Rattle.carv_budget.specs.Account as account
 use Rattle.carv_objects_spec.specs.Reply.{refuse}
 use Rattle.carv_objects_spec.specs.Registry.{Registry, RegistryReply, entry, has, is-budget, account-of, payer-of, pays-for, budget, listed, bytes-of, creatable, needs-backing, has-place, has-next}

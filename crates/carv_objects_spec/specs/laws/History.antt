@@ -7,8 +7,9 @@ use Prim.Native.Nat.{ℕ, suc, _+_, _-_, _≤_}
 use native.Mathlib.Omega.{arith}
 use lib.Dec.{eqb}
 use borrow.Author.Tests.{eqb-true, eqb-false, eq-eqb}
-use Rattle.carv_area.specs.Table
-use Rattle.carv_area.specs.Table.{Row, at, alter, erase, Rising, test}
+use Rattle.carv_area.specs.laws.Table
+use Rattle.carv_area.specs.Table.{Row, at, alter, erase, Rising}
+use Rattle.carv_area.specs.laws.Table.{test}
 use Rattle.carv_budget.specs.declared.Account.{Account}
 use Rattle.carv_budget.specs.Account as account
 use Rattle.carv_budget.specs.Account.{period, renew, due}

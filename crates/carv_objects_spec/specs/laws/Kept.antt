@@ -8,8 +8,9 @@ use native.Mathlib.Omega.{arith}
 use lib.Dec.{eqb, leb}
 use lib.ListN.{length}
 use borrow.Author.Tests.{eqb-true, eqb-false, eq-eqb, ne-eqb, leb-true, le-leb, ltb-true, not-true}
-use Rattle.carv_area.specs.Table
-use Rattle.carv_area.specs.Table.{Row, at, test}
+use Rattle.carv_area.specs.laws.Table
+use Rattle.carv_area.specs.Table.{Row, at}
+use Rattle.carv_area.specs.laws.Table.{test}
 use Rattle.carv_budget.specs.declared.Account.{Account}
 use Rattle.carv_budget.specs.Account.{period, free, renew, due, spend, charge, credit, reserve, return, returnable}
 use Rattle.carv_budget.specs.Account as account

@@ -9,8 +9,9 @@ use native.Mathlib.Omega.{arith}
 use native.Mathlib.Nat.{add-sub-cancel}
 use lib.Dec.{eqb, leb}
 use borrow.Author.Tests.{eqb-true, eqb-false, leb-true, le-leb, ltb-true, le-ltb}
-use Rattle.carv_area.specs.Table
-use Rattle.carv_area.specs.Table.{Row, at, alter, test}
+use Rattle.carv_area.specs.laws.Table
+use Rattle.carv_area.specs.Table.{Row, at, alter}
+use Rattle.carv_area.specs.laws.Table.{test}
 use Rattle.carv_budget.specs.declared.Account.{Account}
 use Rattle.carv_budget.specs.Account as account
 use Rattle.carv_budget.specs.Account.{period, free, charge, renew}

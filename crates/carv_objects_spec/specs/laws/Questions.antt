@@ -7,8 +7,8 @@ use lib.Dec.{leb}
 use borrow.Author.Tests.{eq-eqb, ne-eqb}
 use Rattle.carv_budget.specs.Account as account
 use Rattle.carv_budget.specs.laws.Account.{first, second}
-use Rattle.carv_objects_spec.specs.Reply.{refuse, accept, id, renewed, of-account, charge}
-use Rattle.carv_objects_spec.specs.Registry.{Registry, RegistryReply, entry, has, is-budget, pays-for, account-of, payer-of, budget, object, drop, add, plain, carved, listed, bytes-of, creatable, needs-backing, has-place, has-next, create, insert, create-budget, charge-more, uncharge, remove, refill, charge-cpu, read-account, charge-of}
+use Rattle.carv_objects_spec.specs.Reply.{refuse, accept, id, renewed, pays, of-account, charge}
+use Rattle.carv_objects_spec.specs.Registry.{Registry, RegistryReply, entry, has, is-budget, pays-for, account-of, payer-of, budget, object, drop, add, plain, carved, listed, bytes-of, creatable, needs-backing, has-place, has-next, create, insert, create-budget, charge-more, uncharge, remove, refill, charge-cpu, pays-for-anything, read-account, charge-of}
 
 -- question 6 is asked of the place and of the id
 no-room : (x y : Bool) (k z : RegistryReply) → (x && y) ≡ false → cond x (cond y k z) z ≡ z
@@ -154,6 +154,9 @@ module _ (i ns time : ℕ) (r : Registry) where
     charge-cpu-done b = rw (a, b)
 
 module _ (i : ℕ) (r : Registry) where
+  pub pays-for-anything-done : pays-for-anything i r ≡ accept (some (pays (pays-for r i))) r
+  pays-for-anything-done = refl
+
   pub read-account-missing : is-budget r i ≡ false → read-account i r ≡ refuse 7 r
   read-account-missing a = rw a
 

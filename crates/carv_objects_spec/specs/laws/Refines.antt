@@ -10,7 +10,8 @@ use native.Mathlib.Numerals.{add-one}
 use native.Mathlib.Nat.{add-sub-cancel, sub-zero}
 use lib.Dec.{eqb, leb}
 use borrow.Author.Tests.{eqb-true, eqb-false, eq-eqb, ne-eqb, leb-true, leb-false, le-leb, lt-ltb, le-ltb}
-use Rattle.carv_area.specs.Table.{Row, at, alter, erase, put, total, Rising, test, at-alter, at-below, at-erase-other, rising-le, rising-alter, total-at}
+use Rattle.carv_area.specs.Table.{Row, at, alter, erase, put, total, Rising}
+use Rattle.carv_area.specs.laws.Table.{test, at-alter, at-below, at-erase-other, rising-le, rising-alter, total-at}
 use Rattle.carv_budget.specs.declared.Account.{Account}
 use Rattle.carv_budget.specs.Account as account
 use Rattle.carv_budget.specs.Rust as budget

@@ -7,10 +7,12 @@ use native.Mathlib.Omega.{arith}
 use lib.ListN.{length, getD}
 use lib.Seq.{ext-getD}
 use Rattle.carv_area.specs.Words.{words}
-use Rattle.carv_area.specs.WordLaws.{length-words, words-inj}
-use Rattle.carv_area.specs.Parts.{part, length-part, cut, last}
-use Rattle.carv_area.specs.Rows.{holds-inj}
-use Rattle.carv_area.specs.Stored.{Stored, one, wide-one}
+use Rattle.carv_area.specs.laws.Words.{length-words, words-inj}
+use Rattle.carv_area.specs.Parts.{part}
+use Rattle.carv_area.specs.laws.Parts.{length-part, cut, last}
+use Rattle.carv_area.specs.laws.Rows.{holds-inj}
+use Rattle.carv_area.specs.Stored.{Stored, one}
+use Rattle.carv_area.specs.laws.Stored.{wide-one}
 use Rattle.carv_objects.specs.laws.AreaExact as objects
 use Rattle.carv_objects.specs.laws.AreaExact.{part-bytes}
 use Rattle.carv_scheduler.specs.declared.Answer.{Answer}

@@ -9,15 +9,20 @@ use lib.Dec.{eqb, leb}
 use lib.ListN.{length, getD}
 use lib.Seq.{drop-at}
 use borrow.Author.Tests.{eqb-true, eq-eqb, leb-true, le-leb}
-use Rattle.carv_area.specs.Lists.{tab, length-tab, getD-tab}
+use Rattle.carv_area.specs.Lists.{tab}
+use Rattle.carv_area.specs.laws.Lists.{length-tab, getD-tab}
 use Rattle.carv_area.specs.Words.{words}
-use Rattle.carv_area.specs.WordLaws.{length-words}
+use Rattle.carv_area.specs.laws.Words.{length-words}
 use Rattle.carv_area.specs.Moves.{zeros}
-use Rattle.carv_area.specs.Parts.{part, length-part}
-use Rattle.carv_area.specs.Zero.{allZero, zeros-zero}
-use Rattle.carv_area.specs.Rows.{Holds, flat, length-flat, holds-of}
+use Rattle.carv_area.specs.Parts.{part}
+use Rattle.carv_area.specs.laws.Parts.{length-part}
+use Rattle.carv_area.specs.Zero.{allZero}
+use Rattle.carv_area.specs.laws.Zero.{zeros-zero}
+use Rattle.carv_area.specs.Rows.{Holds, flat}
+use Rattle.carv_area.specs.laws.Rows.{length-flat, holds-of}
 use Rattle.carv_area.specs.Keys.{keys}
-use Rattle.carv_area.specs.Stored.{stored, one, wide-one}
+use Rattle.carv_area.specs.Stored.{one}
+use Rattle.carv_area.specs.laws.Stored.{stored, wide-one}
 use Rattle.carv_budget.specs.laws.Account.{first, second}
 use Rattle.carv_objects.specs.Area as objects
 use Rattle.carv_scheduler_spec.specs.Scheduler.{Board}

@@ -6,16 +6,19 @@ use mathlib.Core.Option.{none}
 use mathlib.Core.List.{List}
 use lib.ListN.{length, getD, set, length-set}
 use lib.Seq.{getD-set-same, getD-set-other}
-use Rattle.carv_area.specs.Table.{Row, at, put, rising-put}
+use Rattle.carv_area.specs.Table.{Row, at, put}
+use Rattle.carv_area.specs.laws.Table.{rising-put}
 use Rattle.carv_area.specs.Words.{words}
-use Rattle.carv_area.specs.WordLaws.{length-words}
-use Rattle.carv_area.specs.Parts.{part, putPart, length-part}
+use Rattle.carv_area.specs.laws.Words.{length-words}
+use Rattle.carv_area.specs.Parts.{part, putPart}
+use Rattle.carv_area.specs.laws.Parts.{length-part}
 use Rattle.carv_area.specs.Moves.{cutRow, openRow}
 use Rattle.carv_area.specs.Rows.{removeAt, insertAt}
 use Rattle.carv_area.specs.Keys.{keys, findIn}
-use Rattle.carv_area.specs.Stored.{Keyed, stored-room, stored-set, stored-remove, stored-insert}
+use Rattle.carv_area.specs.Stored.{Keyed}
+use Rattle.carv_area.specs.laws.Stored.{stored-room, stored-set, stored-remove, stored-insert}
 use Rattle.carv_area.specs.Search.{rankIn}
-use Rattle.carv_area.specs.Lookup as lookup
+use Rattle.carv_area.specs.laws.Lookup as lookup
 use Rattle.carv_area.specs.Lookup.{Located}
 use Rattle.carv_area.specs.declared.Found.{Found}
 use Rattle.carv_objects.specs.laws.AreaSteps.{rising-set, rising-remove}

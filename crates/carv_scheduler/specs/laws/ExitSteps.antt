@@ -10,12 +10,14 @@ use lib.Dec.{eqb}
 use lib.ListN.{length, getD, set, drop, length-drop, drop-of-length-le}
 use lib.Seq.{drop-cons}
 use borrow.Author.Tests.{eqb-false, eq-eqb, ne-eqb}
-use Rattle.carv_area.specs.Table.{test}
+use Rattle.carv_area.specs.laws.Table.{test}
 use Rattle.carv_area.specs.Words.{words}
-use Rattle.carv_area.specs.Parts.{part, putPart, length-part}
+use Rattle.carv_area.specs.Parts.{part, putPart}
+use Rattle.carv_area.specs.laws.Parts.{length-part}
 use Rattle.carv_area.specs.Moves.{cutRow}
 use Rattle.carv_area.specs.Rows.{removeAt}
-use Rattle.carv_area.specs.Stored.{Stored, stored-room, stored-remove, stored-append}
+use Rattle.carv_area.specs.Stored.{Stored}
+use Rattle.carv_area.specs.laws.Stored.{stored-room, stored-remove, stored-append}
 use Rattle.carv_scheduler_spec.specs.declared.Exit.{Exit}
 use Rattle.carv_scheduler.specs.declared.Answer.the-variants.{Cause, NoCause}
 use Rattle.carv_scheduler_spec.specs.Scheduler.{Board, exit-cause, logged, exit-in, exit-of}

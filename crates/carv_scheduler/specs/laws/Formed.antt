@@ -7,8 +7,10 @@ use mathlib.Core.List.{List}
 use lib.ListN.{length, getD}
 use Rattle.carv_area.specs.Table.{Row, Rising}
 use Rattle.carv_area.specs.Words.{words}
-use Rattle.carv_area.specs.Parts.{part, putPart, length-put, part-same, part-before, part-after}
-use Rattle.carv_area.specs.Stored.{Stored, Queue, queue-is}
+use Rattle.carv_area.specs.Parts.{part, putPart}
+use Rattle.carv_area.specs.laws.Parts.{length-put, part-same, part-before, part-after}
+use Rattle.carv_area.specs.Stored.{Stored, Queue}
+use Rattle.carv_area.specs.laws.Stored.{queue-is}
 use Rattle.carv_objects_spec.specs.Registry.{Registry}
 use Rattle.carv_objects.specs.Area as objects
 use Rattle.carv_scheduler_spec.specs.declared.Thread.{Thread}

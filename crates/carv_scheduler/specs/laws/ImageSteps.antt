@@ -8,7 +8,7 @@ use native.Mathlib.Omega.{arith}
 use lib.ListN.{length, getD, set, replicate, length-replicate, getD-replicate}
 use lib.Seq.{ext-getD, getD-set-same, getD-set-other}
 use borrow.Author.Tests.{eq-eqb, ne-eqb}
-use Rattle.carv_area.specs.Lists.{lt-or-ge}
+use Rattle.carv_area.specs.laws.Lists.{lt-or-ge}
 use Rattle.carv_scheduler.specs.Image.{register-image, Filled}
 
 -- the walk of `clear`: the places before i are 0

@@ -9,8 +9,9 @@ use native.Mathlib.Omega.{arith}
 use lib.Dec.{eqb}
 use lib.ListN.{length, getD, set}
 use borrow.Author.Tests.{eqb-true, eq-eqb, ne-eqb}
-use Rattle.carv_area.specs.Table.{Row, alter, erase, test}
-use Rattle.carv_area.specs.Lists.{lt-or-ge}
+use Rattle.carv_area.specs.Table.{Row, alter, erase}
+use Rattle.carv_area.specs.laws.Table.{test}
+use Rattle.carv_area.specs.laws.Lists.{lt-or-ge}
 use Rattle.carv_area.specs.Rows.{removeAt}
 use Rattle.carv_area.specs.Keys.{findIn, after}
 use Rattle.carv_area.specs.Lookup.{Here}

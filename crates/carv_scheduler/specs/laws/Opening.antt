@@ -2,18 +2,21 @@
 use mathlib.Core.Path.{_≡_, refl, sym, ap, _∙_}
 use mathlib.Core.Bool.{true≢false}
 use mathlib.Core.List.{List, [], append-nil}
-use Prim.Native.Nat.{ℕ, suc, _+_, _-_, _/_, _≤_, _<_}
+use Prim.Native.Nat.{ℕ, suc, _+_, _*_, _-_, _/_, _≤_, _<_}
 use native.Mathlib.Omega.{arith}
-use lib.ListN.{length, getD, take, drop, drop-of-length-le, length-replicate}
-use lib.Seq.{take-all}
+use lib.ListN.{length, getD, take, drop, drop-of-length-le, length-replicate, getD-replicate}
+use lib.Seq.{take-all, ext-getD, getD-take, getD-drop}
 use borrow.Author.Tests.{eqb-true, eqb-false, eq-eqb, le-leb, lt-leb}
 use Rattle.carv_area.specs.Table.{put}
 use Rattle.carv_area.specs.Words.{words}
-use Rattle.carv_area.specs.WordLaws.{length-words}
+use Rattle.carv_area.specs.laws.Words.{length-words, words-part}
 use Rattle.carv_area.specs.Moves.{zeros, wipe}
-use Rattle.carv_area.specs.Parts.{part, putPart, length-part, length-put, part-same, part-before, part-after}
-use Rattle.carv_area.specs.Rows.{Holds, flat, hold}
-use Rattle.carv_area.specs.Stored.{stored, one, wide-one}
+use Rattle.carv_area.specs.Parts.{part, putPart}
+use Rattle.carv_area.specs.laws.Parts.{length-part, length-put, part-same, part-before}
+use Rattle.carv_area.specs.Rows.{Holds, flat}
+use Rattle.carv_area.specs.laws.Rows.{hold}
+use Rattle.carv_area.specs.Stored.{one}
+use Rattle.carv_area.specs.laws.Stored.{stored, wide-one}
 use Rattle.carv_budget.specs.Account.{period}
 use Rattle.carv_objects.specs.declared.Answer as registry-answer
 use Rattle.carv_objects_spec.specs.Registry as registry
@@ -28,12 +31,11 @@ use Rattle.carv_scheduler.specs.laws.Formed.{Leaves, leaves}
 use Rattle.carv_scheduler.specs.laws.AreaSteps.{with-threads, New}
 use Rattle.carv_scheduler.specs.laws.AreaLaws.{is-area}
 
--- the n bytes from f on are zero words, and every other part is as it was
+-- the n bytes from f on are zero words, and what stands before them is as it was
 pub record Wiped (f n : ℕ) (a a′ : List ℕ) : Type 0 where
   pub size : length a′ ≡ length a
   pub zero : words (part f n a′) ≡ zeros (n / 8)
   pub before : (g m : ℕ) → g + m ≤ f → part g m a′ ≡ part g m a
-  pub after : (g m : ℕ) → f + n ≤ g → part g m a′ ≡ part g m a
 
 cleared : (l : List ℕ) (n : ℕ) → length l ≡ n → wipe 0 n l ≡ zeros n
 cleared l n e =
@@ -47,7 +49,6 @@ wiped f n a p h z e = record {
   size = length-put f n a p h z;
   zero = ap words (part-same f n a p h z) ∙ e ∙ cleared (words (part f n a)) (n / 8) (length-words (part f n a) ∙ ap (λ (x : ℕ). x / 8) (length-part f n a h));
   before = λ g m b. part-before f n a p h z g m b;
-  after = λ g m b. part-after f n a p h z g m b;
 }
 
 -- the registry's part is that of an opened registry, and every other part is as it was
@@ -73,27 +74,52 @@ none-held fields w wide l n h e = let s : n ≡ suc (n - 1) = omega arith in hol
 abbrev pub blank-board : (cpu memory : ℕ) → Board
 blank-board cpu memory = record { registry = registry.opening cpu memory; threads = []; queue = []; current = 0; switches = 0; exits = [] }
 
--- the parts after one another
-pub blank-formed : (cpu memory : ℕ) (a a₁ a₂ a₃ a₄ a₅ : List ℕ) → length a ≡ 68_144 → RegistryOpened cpu memory a a₁
-    → Wiped 45_072 16 a₁ a₂ → Wiped 45_088 21_512 a₂ a₃ → Wiped 66_600 1_024 a₃ a₄ → Wiped 67_624 520 a₄ a₅ → Leaves a₅ (blank-board cpu memory)
+-- a part of a part
+inside : (f n g m : ℕ) (l : List ℕ) → f + n ≤ length l → g + m ≤ n → part g m (part f n l) ≡ part (f + g) m l
+inside f n g m l h b =
+    let whole : length (part f n l) ≡ n = length-part f n l h in
+    let size : length (part g m (part f n l)) ≡ m = length-part g m (part f n l) (omega arith) in
+    ext-getD 0 (part g m (part f n l)) (part (f + g) m l) (size ∙ sym (length-part (f + g) m l (omega arith)))
+    (λ i a.
+    let e : i < m = omega arith in
+    let q : f + (g + i) ≡ (f + g) + i = omega arith in
+    getD-take m (drop g (part f n l)) i 0 e ∙ getD-drop g (part f n l) i 0 ∙ getD-take n (drop f l) (g + i) 0 (omega arith) ∙ getD-drop f l (g + i) 0
+    ∙ ap (λ (j : ℕ). getD l j 0) q ∙ sym (getD-take m (drop (f + g) l) i 0 e ∙ getD-drop (f + g) l i 0))
+
+zeros-inside : (n g m : ℕ) → g + m ≤ n → take m (drop g (zeros n)) ≡ zeros m
+zeros-inside n g m b =
+    let size : length (part g m (zeros n)) ≡ m = length-part g m (zeros n) (omega (arith, length-replicate {A = ℕ} n 0)) in
+    ext-getD 0 (part g m (zeros n)) (zeros m) (size ∙ sym (length-replicate {A = ℕ} m 0))
+    (λ i a.
+    let e : i < m = omega arith in
+    getD-take m (drop g (zeros n)) i 0 e ∙ getD-drop g (zeros n) i 0 ∙ getD-replicate {A = ℕ} n (g + i) 0 0 (omega arith) ∙ sym (getD-replicate {A = ℕ} m i 0 0 e))
+
+-- m words of the n that are zero
+wiped-part : (f n : ℕ) (a a′ : List ℕ) → Wiped f (n * 8) a a′ → f + n * 8 ≤ length a′ → (g m : ℕ) → g + m ≤ n → words (part (f + g * 8) (m * 8) a′) ≡ zeros m
+wiped-part f n a a′ w h g m b =
+    let size : length (part f (n * 8) a′) ≡ n * 8 = length-part f (n * 8) a′ h in
+    let e : n * 8 / 8 ≡ n = omega arith in
+    ap words (sym (inside f (n * 8) (g * 8) (m * 8) a′ h (omega arith)))
+    ∙ words-part (part f (n * 8) a′) g m (omega arith)
+    ∙ ap (λ (l : List ℕ). take m (drop g l)) (w .zero ∙ ap zeros e)
+    ∙ zeros-inside n g m b
+
+-- the registry, and zeros behind it
+pub blank-formed : (cpu memory : ℕ) (a a₁ a₂ : List ℕ) → length a ≡ 68_144 → RegistryOpened cpu memory a a₁ → Wiped 45_072 23_072 a₁ a₂ → Leaves a₂ (blank-board cpu memory)
 unfolding registry-part head threads-part queue-part exits-part
-blank-formed cpu memory a a₁ a₂ a₃ a₄ a₅ z o w₁ w₂ w₃ w₄ =
-    let h : part 45_072 16 a₅ ≡ part 45_072 16 a₂ =
-    w₄ .before 45_072 16 (omega arith) ∙ w₃ .before 45_072 16 (omega arith) ∙ w₂ .before 45_072 16 (omega arith) in
-    let t : part 45_088 21_512 a₅ ≡ part 45_088 21_512 a₃ = w₄ .before 45_088 21_512 (omega arith) ∙ w₃ .before 45_088 21_512 (omega arith) in
-    let q : part 66_600 1_024 a₅ ≡ part 66_600 1_024 a₄ = w₄ .before 66_600 1_024 (omega arith) in
-    let r : part 0 45_072 a₅ ≡ part 0 45_072 a₁ =
-    w₄ .before 0 45_072 (omega arith) ∙ w₃ .before 0 45_072 (omega arith) ∙ w₂ .before 0 45_072 (omega arith) ∙ w₁ .before 0 45_072 (omega arith) in
-    let words-head : words (part 45_072 16 a₅) ≡ zeros 2 = ap words h ∙ w₁ .zero in
-    leaves a₅ (blank-board cpu memory) (record {
-      size = w₄ .size ∙ w₃ .size ∙ w₂ .size ∙ w₁ .size ∙ o .size ∙ z;
-      registry = rw r (o .registry);
+blank-formed cpu memory a a₁ a₂ z o w =
+    let size : length a₂ ≡ 68_144 = w .size ∙ o .size ∙ z in
+    let zero : (g m : ℕ) → g + m ≤ 2_884 → words (part (45_072 + g * 8) (m * 8) a₂) ≡ zeros m = wiped-part 45_072 2_884 a₁ a₂ w (omega arith) in
+    let words-head : words (part 45_072 16 a₂) ≡ zeros 2 = zero 0 2 (omega arith) in
+    leaves a₂ (blank-board cpu memory) (record {
+      size = size;
+      registry = rw (w .before 0 45_072 (omega arith)) (o .registry);
       current = ap (λ (l : List ℕ). getD l 0 0) words-head;
       switches = ap (λ (l : List ℕ). getD l 1 0) words-head;
-      threads = stored thread-fields 21 (part 45_088 21_512 a₅) [] (none-held thread-fields 21 wide (words (part 45_088 21_512 a₅)) 2_689 (omega arith) (ap words t ∙ w₂ .zero));
+      threads = stored thread-fields 21 (part 45_088 21_512 a₂) [] (none-held thread-fields 21 wide (words (part 45_088 21_512 a₂)) 2_689 (omega arith) (zero 2 2_689 (omega arith)));
       rising = omega arith;
-      queue = stored one 1 (part 66_600 1_024 a₅) [] (none-held one 1 wide-one (words (part 66_600 1_024 a₅)) 128 (omega arith) (ap words q ∙ w₃ .zero));
-      exits = stored exit-fields 2 (part 67_624 520 a₅) [] (none-held exit-fields 2 wide-exit (words (part 67_624 520 a₅)) 65 (omega arith) (w₄ .zero));
+      queue = stored one 1 (part 66_600 1_024 a₂) [] (none-held one 1 wide-one (words (part 66_600 1_024 a₂)) 128 (omega arith) (zero 2_691 128 (omega arith)));
+      exits = stored exit-fields 2 (part 67_624 520 a₂) [] (none-held exit-fields 2 wide-exit (words (part 67_624 520 a₂)) 65 (omega arith) (zero 2_819 65 (omega arith)));
     })
 
 -- the two threads

@@ -7,7 +7,8 @@ use native.Mathlib.Omega.{arith}
 use lib.Dec.{eqb}
 use lib.ListN.{length}
 use borrow.Author.Tests.{eqb-true, eq-eqb}
-use Rattle.carv_area.specs.Table.{Row, erase, Rising, rising-erase, test}
+use Rattle.carv_area.specs.Table.{Row, erase, Rising}
+use Rattle.carv_area.specs.laws.Table.{rising-erase, test}
 use Rattle.carv_scheduler_spec.specs.declared.Thread.{Thread}
 use Rattle.carv_scheduler_spec.specs.Scheduler.{Board, idle, ready, is, thread, has}
 use Rattle.carv_scheduler_spec.specs.Sound.{member, distinct}

@@ -8,7 +8,8 @@ use lib.Seq.{sets, length-sets, set-set, set-comm, set-getD}
 use Rattle.carv_area.specs.Table.{Row, alter}
 use Rattle.carv_area.specs.Words.{words}
 use Rattle.carv_area.specs.Parts.{putPart}
-use Rattle.carv_area.specs.Rows.{Holds, holds-word, holds-set, holds-inj}
+use Rattle.carv_area.specs.Rows.{Holds}
+use Rattle.carv_area.specs.laws.Rows.{holds-word, holds-set, holds-inj}
 use Rattle.carv_area.specs.Lookup.{Here}
 use Rattle.carv_scheduler_spec.specs.declared.Wait.{Wait}
 use Rattle.carv_scheduler_spec.specs.declared.Results.{Results}

@@ -8,8 +8,9 @@ use mathlib.Core.List.{List, [], _∷_}
 use lib.ListN.{length, getD, set}
 use lib.Seq.{sets}
 use Rattle.carv_area.specs.Table.{Row}
-use Rattle.carv_area.specs.Rows.{Holds, holds-word}
-use Rattle.carv_area.specs.Stored.{rows-are}
+use Rattle.carv_area.specs.Rows.{Holds}
+use Rattle.carv_area.specs.laws.Rows.{holds-word}
+use Rattle.carv_area.specs.laws.Stored.{rows-are}
 use Rattle.carv_scheduler_spec.specs.declared.Wait.{Wait}
 use Rattle.carv_scheduler_spec.specs.declared.BudgetId.{BudgetId}
 use Rattle.carv_scheduler_spec.specs.declared.Spaces.{Spaces}

@@ -5,8 +5,8 @@ use mathlib.Core.List.{List}
 use Prim.Native.Nat.{ℕ, _^_, _≤_}
 use lib.ListN.{length, getD}
 use borrow.Author.Tests.{leb-true, le-leb}
-use Rattle.carv_area.specs.Table.{test}
-use Rattle.carv_area.specs.Lists.{length-tab}
+use Rattle.carv_area.specs.laws.Table.{test}
+use Rattle.carv_area.specs.laws.Lists.{length-tab}
 use Rattle.carv_area.specs.Words.{words}
 use Rattle.carv_area.specs.Keys.{keys}
 use Rattle.carv_objects_spec.specs.Registry.{Registry}

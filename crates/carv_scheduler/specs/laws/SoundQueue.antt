@@ -12,7 +12,8 @@ use lib.ListN.{getD, set, length-set, length-replicate, getD-replicate}
 use lib.Seq.{getD-set-same, getD-set-other}
 use borrow.Author.Tests.{eqb-true, eq-eqb, ne-eqb}
 use Rattle.carv_area.specs.Table.{at}
-use Rattle.carv_area.specs.Lists.{tab, apart, same-or-not}
+use Rattle.carv_area.specs.Lists.{tab}
+use Rattle.carv_area.specs.laws.Lists.{apart, same-or-not}
 use Rattle.carv_area.specs.Moves.{zeros}
 use Rattle.carv_area.specs.Keys.{keys}
 use Rattle.carv_budget.specs.laws.Account.{first, second}

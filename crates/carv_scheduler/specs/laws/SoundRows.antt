@@ -11,13 +11,17 @@ use lib.ListN.{length, getD, drop}
 use Rattle.carv_area.specs.declared.Found.{Found}
 use Rattle.carv_area.specs.declared.Found.the-variants.{At, Nothing}
 use Rattle.carv_area.specs.Table.{Row, at}
-use Rattle.carv_area.specs.Lists.{tab, length-tab, getD-tab, lt-or-ge}
+use Rattle.carv_area.specs.Lists.{tab}
+use Rattle.carv_area.specs.laws.Lists.{length-tab, getD-tab, lt-or-ge}
 use Rattle.carv_area.specs.Words.{words}
 use Rattle.carv_area.specs.Keys as keys
-use Rattle.carv_area.specs.Keys.{keys, length-keys, getD-keys, findIn}
+use Rattle.carv_area.specs.Keys.{keys, findIn}
+use Rattle.carv_area.specs.laws.Keys.{length-keys, getD-keys}
 use Rattle.carv_area.specs.Zero.{allZero}
-use Rattle.carv_area.specs.Stored.{Keyed, keyed-of}
-use Rattle.carv_area.specs.Lookup.{ids, Located, located, rising-ids, ids-rising}
+use Rattle.carv_area.specs.Stored.{Keyed}
+use Rattle.carv_area.specs.laws.Stored.{keyed-of}
+use Rattle.carv_area.specs.Lookup.{Located}
+use Rattle.carv_area.specs.laws.Lookup.{ids, located, rising-ids, ids-rising}
 use Rattle.carv_budget.specs.laws.Account.{first, second}
 use Rattle.carv_objects_spec.specs.Sound.{every}
 use Rattle.carv_scheduler_spec.specs.declared.Thread.{Thread}

@@ -6,7 +6,8 @@ use mathlib.Core.List.{List}
 use Prim.Native.Nat.{ℕ}
 use lib.Dec.{eqb}
 use borrow.Author.Tests.{eq-eqb, ne-eqb}
-use Rattle.carv_area.specs.Table.{at, test}
+use Rattle.carv_area.specs.Table.{at}
+use Rattle.carv_area.specs.laws.Table.{test}
 use Rattle.carv_objects_spec.specs.laws.SoundLaws.{either}
 use Rattle.carv_objects.specs.laws.SoundWalk.{Tells}
 use Rattle.carv_scheduler_spec.specs.Scheduler.{idle, ready, running, is, thread}

@@ -1,16 +1,19 @@
 -- The tests of one thread's words, by the arms of the code, and that they are the tests of specs/Sound.antt. Assumes nothing.
-use mathlib.Core.Path.{_≡_, sym, _∙_}
+use mathlib.Core.Path.{_≡_, sym, ap, _∙_}
 use mathlib.Core.Bool.{Bool, true, false, cond, not, _&&_, _||_, and-true, and-false, or-true, false≢true}
 use mathlib.Core.List.{List}
 use Prim.Native.Nat.{ℕ, _≤_, _<_}
 use native.Mathlib.Omega.{arith}
 use lib.Dec.{eqb, leb}
 use borrow.Author.Tests.{eqb-true, eq-eqb, ne-eqb, le-leb, lt-leb}
-use Rattle.carv_area.specs.Table.{test}
+use Rattle.carv_area.specs.laws.Table.{test}
 use Rattle.carv_budget.specs.laws.Account.{first, second}
 use Rattle.carv_objects_spec.specs.Sound.{all}
 use Rattle.carv_objects_spec.specs.laws.SoundLaws.{all-told, all-shown}
 use Rattle.carv_objects.specs.laws.SoundWalk.{Tells}
+use Rattle.carv_scheduler_spec.specs.declared.Wait.{Wait}
+use Rattle.carv_scheduler_spec.specs.declared.BudgetId.{BudgetId}
+use Rattle.carv_scheduler_spec.specs.declared.Spaces.{Spaces}
 use Rattle.carv_scheduler_spec.specs.declared.Thread.{Thread}
 use Rattle.carv_scheduler_spec.specs.Scheduler.{Board, idle, wait-listed}
 use Rattle.carv_scheduler_spec.specs.Sound.{member, implies, same, unpaid, thread-tests}
@@ -125,26 +128,27 @@ module _ (w : List ℕ) (c i : ℕ) (q : Bool) (id s : ℕ) (is-id : id ≡ id-a
   pub no-state : (b : Bool) → b ≡ state-fits q c id s → b ≡ false → Fits w c i q → ⊥
   no-state b e f k = false≢true (sym f ∙ state-of b e ∙ k .state)
 
-  module _ (k n : ℕ) (is-k : k ≡ it-at w i .wait .kind) (is-n : n ≡ it-at w i .wait .number) where
-    wait-of : (b : Bool) → b ≡ wait-fits s k n → b ≡ wait-fits (it-at w i .state) (it-at w i .wait .kind) (it-at w i .wait .number)
-    wait-of b e = rw (← is-s, ← is-k, ← is-n) e
+  module _ (x : Wait) (is-x : x ≡ it-at w i .wait) where
+    wait-of : (b : Bool) → b ≡ wait-fits s (x .kind) (x .number) → b ≡ wait-fits (it-at w i .state) (it-at w i .wait .kind) (it-at w i .wait .number)
+    wait-of b e = rw (← is-s) (e ∙ ap (λ (v : Wait). wait-fits s (v .kind) (v .number)) is-x)
 
-    pub no-wait : (b : Bool) → b ≡ wait-fits s k n → b ≡ false → Fits w c i q → ⊥
+    pub no-wait : (b : Bool) → b ≡ wait-fits s (x .kind) (x .number) → b ≡ false → Fits w c i q → ⊥
     no-wait b e f t = false≢true (sym f ∙ wait-of b e ∙ t .wait)
 
-    module _ (h p : ℕ) (is-h : h ≡ it-at w i .budget .is) (is-p : p ≡ it-at w i .budget .id) where
-      budget-of : (b : Bool) → b ≡ budget-fits id h p → b ≡ budget-fits (id-at w i) (it-at w i .budget .is) (it-at w i .budget .id)
-      budget-of b e = rw (← is-id, ← is-h, ← is-p) e
+    module _ (y : BudgetId) (is-y : y ≡ it-at w i .budget) where
+      budget-of : (b : Bool) → b ≡ budget-fits id (y .is) (y .id) → b ≡ budget-fits (id-at w i) (it-at w i .budget .is) (it-at w i .budget .id)
+      budget-of b e = rw (← is-id) (e ∙ ap (λ (v : BudgetId). budget-fits id (v .is) (v .id)) is-y)
 
-      pub no-budget : (b : Bool) → b ≡ budget-fits id h p → b ≡ false → Fits w c i q → ⊥
+      pub no-budget : (b : Bool) → b ≡ budget-fits id (y .is) (y .id) → b ≡ false → Fits w c i q → ⊥
       no-budget b e f t = false≢true (sym f ∙ budget-of b e ∙ t .budget)
 
       -- all but the space is in order
-      pub space-tells : (g x y z : ℕ) → g ≡ it-at w i .spaces .is → x ≡ it-at w i .spaces .space → y ≡ it-at w i .spaces .cspace → z ≡ it-at w i .spaces .root
-          → (b₁ : Bool) → b₁ ≡ state-fits q c id s → b₁ ≡ true → (b₂ : Bool) → b₂ ≡ wait-fits s k n → b₂ ≡ true
-          → (b₃ : Bool) → b₃ ≡ budget-fits id h p → b₃ ≡ true → (b : Bool) → b ≡ space-fits g x y z → Tells b (Fits w c i q)
-      space-tells g x y z is-g is-x is-y is-z b₁ e₁ f₁ b₂ e₂ f₂ b₃ e₃ f₃ b e =
-          let e′ : b ≡ space-fits (it-at w i .spaces .is) (it-at w i .spaces .space) (it-at w i .spaces .cspace) (it-at w i .spaces .root) = rw (← is-g, ← is-x, ← is-y, ← is-z) e in
+      pub space-tells : (z : Spaces) → z ≡ it-at w i .spaces → (b₁ : Bool) → b₁ ≡ state-fits q c id s → b₁ ≡ true
+          → (b₂ : Bool) → b₂ ≡ wait-fits s (x .kind) (x .number) → b₂ ≡ true → (b₃ : Bool) → b₃ ≡ budget-fits id (y .is) (y .id) → b₃ ≡ true
+          → (b : Bool) → b ≡ space-fits (z .is) (z .space) (z .cspace) (z .root) → Tells b (Fits w c i q)
+      space-tells z is-z b₁ e₁ f₁ b₂ e₂ f₂ b₃ e₃ f₃ b e =
+          let e′ : b ≡ space-fits (it-at w i .spaces .is) (it-at w i .spaces .space) (it-at w i .spaces .cspace) (it-at w i .spaces .root)
+          = e ∙ ap (λ (v : Spaces). space-fits (v .is) (v .space) (v .cspace) (v .root)) is-z in
           record {
             so = λ f. record {
               state = sym (state-of b₁ e₁) ∙ f₁;

@@ -9,7 +9,8 @@ use mathlib.Core.List.{List, [], _∷_, _++_}
 use lib.ListN.{length, getD, set, drop, length-set, drop-of-length-le}
 use lib.Seq.{drop-cons, drop-set-lt}
 use borrow.Author.Tests.{eq-eqb, ne-eqb, le-leb, lt-leb}
-use Rattle.carv_area.specs.Table.{Row, alter, pick, test, Rising}
+use Rattle.carv_area.specs.Table.{Row, alter, pick, Rising}
+use Rattle.carv_area.specs.laws.Table.{test}
 use Rattle.carv_area.specs.Lookup.{Here, Gone}
 use Rattle.carv_budget.specs.laws.Account.{first}
 use Rattle.carv_objects_spec.specs.Reply.{refuse, accept}

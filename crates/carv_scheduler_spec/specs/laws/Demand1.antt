@@ -10,7 +10,7 @@ use Rattle.carv_objects_spec.specs.Reply.{refuse}
 use Rattle.carv_objects_spec.specs.Registry.{Registry}
 use Rattle.carv_objects_spec.specs.laws.Demand1 as objects
 use Rattle.carv_scheduler_spec.specs.Scheduler as scheduler
-use Rattle.carv_scheduler_spec.specs.Scheduler.{Board, BoardReply, idle, inactive, running, blocked, is, wait-listed, cause-listed, tick-fits, thread, has}
+use Rattle.carv_scheduler_spec.specs.Scheduler.{Board, BoardReply, idle, inactive, running, blocked, is, wait-listed, cause-listed, most-threads, tick-fits, thread, has}
 use Rattle.carv_scheduler_spec.specs.Book.{Call, on-objects, create-user-thread, start, block-current, wake, is-blocked-on, kill, tick, plan, read-thread, read-current, read-switches, exit-of}
 use Rattle.carv_scheduler_spec.specs.Runs.{run}
 use Rattle.carv_scheduler_spec.specs.Demand1.{renewal-left, with-renewal}
@@ -41,7 +41,7 @@ leaves (on-objects c) b = let h = objects.leaves c (b .registry) in
     record { left = λ q. ap (λ (r : Registry). scheduler.with-registry r b) (h .left q); not-one = h .not-one }
 leaves (create-user-thread i budget stack) b = kept (create-user-thread i budget stack) b (λ n. refl)
     (ask 5 (not (has (b .threads) i)) b (omega arith) (ask 5 (not (eqb i 0)) b (omega arith) (ask 5 (not (eqb i idle)) b (omega arith)
-    (ask 6 (ltb (length (b .threads)) 128) b (omega arith) (ask 14 stack b (omega arith) (accepted b _ refl))))))
+    (ask 6 (ltb (length (b .threads)) most-threads) b (omega arith) (ask 14 stack b (omega arith) (accepted b _ refl))))))
 leaves (start i space cspace root context) b = kept (start i space cspace root context) b (λ n. refl)
     (ask 7 (has (b .threads) i) b (omega arith) (ask 8 (is inactive (thread (b .threads) i)) b (omega arith) (accepted b _ refl)))
 leaves (block-current kind number) b = kept (block-current kind number) b (λ n. refl)

@@ -8,8 +8,9 @@ use native.Mathlib.Omega.{arith}
 use native.Mathlib.Nat.{mod-lt}
 use lib.Dec.{eqb, ltb, leb}
 use borrow.Author.Tests.{eqb-true, eqb-false, eq-eqb, ne-eqb, lt-leb}
-use Rattle.carv_area.specs.Table
-use Rattle.carv_area.specs.Table.{Row, at, test}
+use Rattle.carv_area.specs.laws.Table
+use Rattle.carv_area.specs.Table.{Row, at}
+use Rattle.carv_area.specs.laws.Table.{test}
 use Rattle.carv_budget.specs.Account.{period}
 use Rattle.carv_budget.specs.laws.Account.{not-second}
 use Rattle.carv_objects_spec.specs.Registry.{is-budget, account-of}
@@ -60,7 +61,7 @@ module _ (o : objects.Book) (e : ℕ) (f : Budget → Budget) (h : is-live o e �
       (λ a. rw a (ap objects.or-no-budget (Table.at-alter-other (o .budgets) e c f (eqb-false e c a))))
 
 -- the test of a thread with a budget, said of that budget alone
-time-direct : (t c : ℕ) (o : objects.Book) → book.has-time (some c) (book.renew-for t (some c) o) ≡ (is-live o c && ltb 0 (cpu-left (objects.renew t (budget-of o c))))
+pub time-direct : (t c : ℕ) (o : objects.Book) → book.has-time (some c) (book.renew-for t (some c) o) ≡ (is-live o c && ltb 0 (cpu-left (objects.renew t (budget-of o c))))
 time-direct t c o = test (is-live o c)
     (λ a. rw (a, live-after o c (objects.renew t) a c, a, budget-after o c (objects.renew t) a c, eq-eqb c c refl))
     (λ a. rw (a, a))
@@ -200,7 +201,7 @@ module _ (n : ℕ) (b : Board) (k : Book) (s : Sound b) (F : FollowsBoard b k) w
 
 -- Lists.
 
-all-fit : (xs ys : List Call) → AllFit (xs ++ ys) → AllFit xs
+pub all-fit : (xs ys : List Call) → AllFit (xs ++ ys) → AllFit xs
 all-fit [] ys f = tt
 all-fit (c ∷ xs) ys f = (f .0, all-fit xs ys (f .1))
 

@@ -1,8 +1,9 @@
 -- Document 01's "On the record edges" on the whole board: one list, `Edges`, a field for each sentence in 01's order, which the definitions satisfy together. All
--- that are marked (m) come first, then the two that are not. Assumes nothing.
+-- that are marked (m) come first, then the two that are not, then cases of plannings that 01's list does not reach. Assumes nothing.
 use mathlib.Core.Path.{_≡_, refl}
 use mathlib.Core.Bool.{true, false}
 use mathlib.Core.Option.{Option, none, some}
+use mathlib.Core.List.{[], _∷_}
 use Prim.Native.Nat.{ℕ, zero, suc, _+_}
 use lib.ListN.{length}
 use Rattle.carv_budget.specs.declared.Account.{Account}
@@ -70,9 +71,13 @@ both-gone = by-registry (remove 6) (first-gone .after)
 abbrev pub low : (memory : ℕ) → Board
 low memory = by-registry (charge-cpu 1 9_700_000 0) (opening 10_000_000 memory) .after
 
--- thread 7 runs on the root budget, and thread 0 is gone
+-- thread 7, on the root budget, is started with space 20, cspace 30 and root 40
+abbrev pub with-started-7 : Board → Board
+with-started-7 b = start 7 20 30 40 fresh-context (create-user-thread 7 1 true b .after) .after
+
+-- thread 7 runs, and thread 0 is gone
 abbrev pub with-7 : Board
-with-7 = plan 0 (kill 0 1 (start 7 20 30 40 fresh-context (create-user-thread 7 1 true board .after) .after) .after) .after
+with-7 = plan 0 (kill 0 1 (with-started-7 board) .after) .after
 
 abbrev pub low-7 : Board
 low-7 = by-registry (charge-cpu 1 9_700_000 0) with-7 .after
@@ -83,6 +88,13 @@ killed-0 = kill 0 1 (plan 0 board .after)
 
 abbrev pub left-0 : BoardReply
 left-0 = plan 0 (killed-0 .after)
+
+-- thread 7 planned beside thread 0, and while idle runs
+abbrev pub to-7 : BoardReply
+to-7 = plan 0 (with-started-7 board)
+
+abbrev pub from-idle : BoardReply
+from-idle = plan 0 (with-started-7 (left-0 .after))
 
 -- "Tick 18,446,744,073,709"
 abbrev pub last-tick : ℕ
@@ -155,6 +167,16 @@ pub record Edges : Type 0 where
       × Accepted (some (exit-cause none)) (exit-of 101 (kills 33))
       × Accepted (some (exit-cause (some 2))) (exit-of 102 (kills 33))
       × (length (kills 33 .exits) ≡ 32)
+  -- "The answer is .. old id, new id, and the new root or "kernel's"": to thread 7, and back to thread 0
+  pub own-root : Accepted (some (switch 0 7 (some 40))) to-7
+      × (to-7 .after .current ≡ 7)
+      × (to-7 .after .queue ≡ 0 ∷ [])
+      × Accepted (some (switch 7 0 none)) (plan 0 (to-7 .after))
+  -- "a current thread in Running, other than idle, goes to the queue's end"; "Idle still reads Running after it is switched away from"
+  pub away-from-idle : Accepted (some (switch 18_446_744_073_709_551_615 7 (some 40))) from-idle
+      × (from-idle .after .current ≡ 7)
+      × (from-idle .after .queue ≡ [])
+      × (thread (from-idle .after .threads) 18_446_744_073_709_551_615 .state ≡ 3)
 
 pub edges-hold : Edges
 unfolding due renew returnable
@@ -174,4 +196,6 @@ edges-hold = record {
   memory-128 = (refl, refl, refl, refl);
   tick-passes = ((refl, refl), refl, (refl, refl), refl);
   kills-33 = ((refl, refl), (refl, refl), (refl, refl), refl);
+  own-root = ((refl, refl), refl, refl, (refl, refl));
+  away-from-idle = ((refl, refl), refl, refl, refl);
 }

@@ -9,8 +9,9 @@ use native.Mathlib.Omega.{arith}
 use lib.Dec.{eqb, ltb}
 use lib.ListN.{length}
 use borrow.Author.Tests.{eqb-true, eqb-false, eq-eqb, ne-eqb, not-true}
-use Rattle.carv_area.specs.Table
-use Rattle.carv_area.specs.Table.{Row, at, alter, put, pick, passes, Rising, test}
+use Rattle.carv_area.specs.laws.Table
+use Rattle.carv_area.specs.Table.{Row, at, alter, put, pick, Rising}
+use Rattle.carv_area.specs.laws.Table.{passes, test}
 use Rattle.carv_budget.specs.Account as account
 use Rattle.carv_budget.specs.laws.Account.{second}
 use Rattle.carv_objects_spec.specs.laws.Asked.{asked}
@@ -25,7 +26,7 @@ use Rattle.carv_scheduler_spec.specs.declared.Results.{Results}
 use Rattle.carv_scheduler_spec.specs.declared.Context.{Context}
 use Rattle.carv_scheduler_spec.specs.declared.Thread.{Thread}
 use Rattle.carv_scheduler_spec.specs.Scheduler as scheduler
-use Rattle.carv_scheduler_spec.specs.Scheduler.{Board, BoardReply, idle, tick-ns, inactive, ready, running, blocked, dead, is, wait, no-wait, wait-of, is-due, budget-id, fresh, or-fresh, thread, has, become, started, woken, ticked, with-registry, with-threads, join, without, results}
+use Rattle.carv_scheduler_spec.specs.Scheduler.{Board, BoardReply, idle, most-threads, tick-ns, inactive, ready, running, blocked, dead, is, wait, no-wait, wait-of, is-due, budget-id, fresh, or-fresh, thread, has, become, started, woken, ticked, with-registry, with-threads, join, without, results}
 use Rattle.carv_scheduler_spec.specs.Sound.{member, distinct}
 use Rattle.carv_scheduler_spec.specs.laws.SoundFacts.{Sound}
 use Rattle.carv_scheduler_spec.specs.laws.SoundLaws.{queued-there}
@@ -258,7 +259,7 @@ module _ (b : Board) (k : Book) (s : Sound b) (F : FollowsBoard b k) where
       asked P (not (has (b .threads) i)) F λ missing.
       asked P (not (eqb i 0)) F λ not-first.
       asked P (not (eqb i idle)) F λ not-idle.
-      asked P (ltb (length (b .threads)) 128) F λ room.
+      asked P (ltb (length (b .threads)) most-threads) F λ room.
       asked P stack F λ backing.
       created i budget fits (not-true (has (b .threads) i) missing)
 

@@ -8,8 +8,9 @@ use native.Mathlib.Omega.{arith}
 use lib.Dec.{eqb, ltb}
 use lib.ListN.{length}
 use borrow.Author.Tests.{eqb-true, ltb-true, not-true}
-use Rattle.carv_area.specs.Table
-use Rattle.carv_area.specs.Table.{at, alter, put, pick, test}
+use Rattle.carv_area.specs.laws.Table
+use Rattle.carv_area.specs.Table.{at, alter, put, pick}
+use Rattle.carv_area.specs.laws.Table.{test}
 use Rattle.carv_budget.specs.Account.{period}
 use Rattle.carv_objects_spec.specs.laws.Asked.{asked}
 use Rattle.carv_objects_spec.specs.Registry as registry
@@ -18,7 +19,7 @@ use Rattle.carv_objects_spec.specs.laws.Kept as objects-kept
 use Rattle.carv_scheduler_spec.specs.declared.Context.{Context}
 use Rattle.carv_scheduler_spec.specs.declared.Results.{Results}
 use Rattle.carv_scheduler_spec.specs.declared.Exit.{Exit}
-use Rattle.carv_scheduler_spec.specs.Scheduler.{Board, BoardReply, idle, tick-ns, tick-fits, inactive, ready, running, blocked, dead, is, is-due, wait, wait-listed, cause-listed, no-wait, no-budget-id, budget-id, in-spaces, results, fresh, or-fresh, thread, has, started, woken, ticked, with-registry, with-threads, logged, charge-tick, opening, create-user-thread, start, block-current, wake, is-blocked-on, kill, wake-all, tick, put-back, choose, plan, read-thread, on-registry}
+use Rattle.carv_scheduler_spec.specs.Scheduler.{Board, BoardReply, idle, most-threads, tick-ns, tick-fits, inactive, ready, running, blocked, dead, is, is-due, wait, wait-listed, cause-listed, no-wait, no-budget-id, budget-id, in-spaces, results, fresh, or-fresh, thread, has, started, woken, ticked, with-registry, with-threads, logged, charge-tick, opening, create-user-thread, start, block-current, wake, is-blocked-on, kill, wake-all, tick, put-back, choose, plan, read-thread, on-registry}
 use Rattle.carv_scheduler_spec.specs.Sound.{unpaid}
 use Rattle.carv_scheduler_spec.specs.laws.SoundFacts.{SoundThread, Sound}
 use Rattle.carv_scheduler_spec.specs.laws.Reading.{and-false, or-true, thread-put, has-put, without-absent}
@@ -35,7 +36,7 @@ create-user-thread-kept i budget stack b low o =
     asked Keeps (not (has (b .threads) i)) o λ h.
     asked Keeps (not (eqb i 0)) o λ n.
     asked Keeps (not (eqb i idle)) o λ k.
-    asked Keeps (ltb (length (b .threads)) 128) o λ room.
+    asked Keeps (ltb (length (b .threads)) most-threads) o λ room.
     asked Keeps stack o λ backing.
     let m = b .threads in
     let t = fresh inactive (budget-id budget) in
@@ -46,7 +47,7 @@ create-user-thread-kept i budget stack b low o =
     let here = has-put m i t in
     record {
       registry = o .registry;
-      few = omega (arith, Table.length-put m i t, ltb-true (length m) 128 room);
+      few = omega (arith, Table.length-put m i t, ltb-true (length m) most-threads room);
       rising = Table.rising-put m 0 (2 ^ 64) i t (omega arith) low (o .rising);
       codes = codes-by (put i t m) (λ j. rw (now j) (test (eqb i j)
           (λ a. rw a (fresh-sound inactive (budget-id budget) (omega arith) (omega arith) refl (λ q. refl) (λ q. absurd (omega arith))))

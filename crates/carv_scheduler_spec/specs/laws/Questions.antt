@@ -1,17 +1,18 @@
 -- The board's calls question by question: what each replies where the first question that is missed is this one, and where none is. Assumes nothing.
-use mathlib.Core.Path.{_≡_}
+use mathlib.Core.Path.{_≡_, refl}
 use mathlib.Core.Bool.{Bool, true, false, cond, _&&_}
 use mathlib.Core.Option.{none, some}
 use mathlib.Core.List.{List}
-use Prim.Native.Nat.{ℕ, _≤_, _<_}
+use Prim.Native.Nat.{ℕ, _*_, _≤_, _<_}
 use lib.Dec.{eqb}
 use lib.ListN.{length}
-use borrow.Author.Tests.{eq-eqb, ne-eqb, lt-ltb, le-ltb}
-use Rattle.carv_area.specs.Table.{Row, alter, erase, put}
+use borrow.Author.Tests.{eq-eqb, ne-eqb, lt-ltb, le-ltb, le-leb, lt-leb}
+use Rattle.carv_area.specs.Table.{Row, alter, erase, put, pick}
 use Rattle.carv_objects_spec.specs.Reply.{refuse, accept}
 use Rattle.carv_scheduler_spec.specs.declared.Context.{Context}
+use Rattle.carv_scheduler_spec.specs.declared.Results.{Results}
 use Rattle.carv_scheduler_spec.specs.declared.Thread.{Thread}
-use Rattle.carv_scheduler_spec.specs.Scheduler.{Board, idle, inactive, running, blocked, is, wait, wait-listed, budget-id, in-spaces, fresh, thread, has, become, started, with-threads, join, is-blocked, record-of, create-user-thread, start, block-current, is-blocked-on, read-thread, dead, no-wait, wait-of, ended, without, logged, cause-listed, kill}
+use Rattle.carv_scheduler_spec.specs.Scheduler.{Board, idle, inactive, running, blocked, is, wait, wait-listed, budget-id, in-spaces, fresh, thread, has, become, started, with-threads, join, is-blocked, record-of, create-user-thread, start, block-current, is-blocked-on, read-thread, dead, no-wait, wait-of, ended, without, logged, cause-listed, kill, woken, wake, ticked, is-due, with-registry, charge-tick, wake-all, tick, Choice, put-back, choose, switch-to, switch-value, plan, word, read-current, read-switches, exit-cause, exit-in, exit-of}
 
 module _ (i budget : ℕ) (stack : Bool) (b : Board) where
   pub create-known : has (b .threads) i ≡ true → create-user-thread i budget stack b ≡ refuse 5 b
@@ -48,6 +49,17 @@ module _ (i space cspace root : ℕ) (context : Context) (b : Board) where
         → start i space cspace root context b ≡ accept none (with-threads (alter i (started (in-spaces space cspace root) context) (b .threads)) (join (b .queue) i) b)
     start-done s = rw (h, s)
 
+module _ (i : ℕ) (r : Results) (b : Board) where
+  pub wake-missing : has (b .threads) i ≡ false → wake i r b ≡ refuse 7 b
+  wake-missing h = rw h
+
+  module _ (h : has (b .threads) i ≡ true) where
+    pub wake-other : is blocked (thread (b .threads) i) ≡ false → wake i r b ≡ refuse 8 b
+    wake-other s = rw (h, s)
+
+    pub wake-done : is blocked (thread (b .threads) i) ≡ true → wake i r b ≡ accept none (with-threads (alter i (woken r) (b .threads)) (join (b .queue) i) b)
+    wake-done s = rw (h, s)
+
 module _ (kind number : ℕ) (b : Board) where
   pub block-unlisted : wait-listed kind ≡ false → block-current kind number b ≡ refuse 4 b
   block-unlisted l = rw l
@@ -83,6 +95,37 @@ module _ (i : ℕ) (b : Board) where
 
   pub read-done : has (b .threads) i ≡ true → read-thread i b ≡ accept (some (record-of (thread (b .threads) i))) b
   read-done h = rw h
+
+  pub exit-of-done : exit-of i b ≡ accept (some (exit-cause (exit-in i (b .exits)))) b
+  exit-of-done = refl
+
+module _ (b : Board) where
+  pub read-current-done : read-current b ≡ accept (some (word (b .current))) b
+  read-current-done = refl
+
+  pub read-switches-done : read-switches b ≡ accept (some (word (b .switches))) b
+  read-switches-done = refl
+
+-- `tick` and `plan`.
+module _ (n : ℕ) (b : Board) where
+  pub tick-late : 18_446_744_073_709 < n → tick n b ≡ refuse 3 b
+  tick-late h = rw (lt-leb n 18_446_744_073_709 h)
+
+  pub tick-done : n ≤ 18_446_744_073_709 → tick n b ≡ accept none (
+      wake-all (pick (is-due n) (b .threads))
+      (with-registry (charge-tick (n * 1_000_000) (thread (b .threads) (b .current) .budget) (b .registry))
+      (with-threads (alter (b .current) ticked (b .threads)) (b .queue) b)))
+  tick-done h = rw (le-leb n 18_446_744_073_709 h)
+
+  pub plan-late : 18_446_744_073_709 < n → plan n b ≡ refuse 3 b
+  plan-late h = rw (lt-leb n 18_446_744_073_709 h)
+
+  -- the planning's choice among the queue that the current thread is put back into
+  abbrev pub planned : Choice
+  planned = choose (n * 1_000_000) (put-back b .threads) (put-back b .queue) (put-back b .registry)
+
+  pub plan-done : n ≤ 18_446_744_073_709 → plan n b ≡ accept (some (switch-value (b .current) planned (put-back b))) (switch-to planned (put-back b))
+  plan-done h = rw (le-leb n 18_446_744_073_709 h)
 
 -- the threads after the end of thread i
 abbrev pub killed : ℕ → Board → List (Row Thread)

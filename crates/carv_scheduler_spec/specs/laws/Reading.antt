@@ -7,8 +7,9 @@ use Prim.Native.Nat.{ℕ, suc, _<_}
 use native.Mathlib.Omega.{arith}
 use lib.Dec.{eqb}
 use borrow.Author.Tests.{eqb-true, eqb-false, eq-eqb, ne-eqb, not-true}
-use Rattle.carv_area.specs.Table
-use Rattle.carv_area.specs.Table.{Row, at, alter, erase, put, pick, Rising, test}
+use Rattle.carv_area.specs.laws.Table
+use Rattle.carv_area.specs.Table.{Row, at, alter, erase, put, pick, Rising}
+use Rattle.carv_area.specs.laws.Table.{test}
 use Rattle.carv_budget.specs.laws.Account.{first, second}
 use Rattle.carv_scheduler_spec.specs.declared.Thread.{Thread}
 use Rattle.carv_scheduler_spec.specs.Scheduler.{inactive, no-budget-id, fresh, or-fresh, found, thread, has, join, without}

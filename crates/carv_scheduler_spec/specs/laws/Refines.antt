@@ -10,7 +10,8 @@ use native.Mathlib.Nat.{min-eq-left, min-eq-right}
 use lib.Dec.{eqb, ltb, leb}
 use lib.ListN.{length}
 use borrow.Author.Tests.{eqb-true, eqb-false, eq-eqb, leb-true, leb-false, le-leb}
-use Rattle.carv_area.specs.Table.{Row, at, alter, erase, pick, test, at-alter, at-alter-other}
+use Rattle.carv_area.specs.Table.{Row, at, alter, erase, pick}
+use Rattle.carv_area.specs.laws.Table.{test, at-alter, at-alter-other}
 use Rattle.carv_budget.specs.declared.Account.{Account}
 use Rattle.carv_budget.specs.Account as account
 use Rattle.carv_budget.specs.laws.Account.{first, renew-twice}
@@ -29,7 +30,7 @@ use Rattle.carv_scheduler_spec.specs.declared.Results.{Results}
 use Rattle.carv_scheduler_spec.specs.declared.Thread.{Thread}
 use Rattle.carv_scheduler_spec.specs.declared.Exit.{Exit}
 use Rattle.carv_scheduler_spec.specs.Scheduler as s01
-use Rattle.carv_scheduler_spec.specs.Scheduler.{Board, BoardReply, Value, is-blocked, record-of, word, exit-cause, Choice, idle, tick-ns, tick-fits, inactive, running, blocked, dead, is, no-wait, wait-listed, cause-listed, is-due, results, become, ticked, thread, has, found, or-fresh, without, renew-for, has-time, charge-tick, put-back, choose, switch-to, switch-value, root-of, exit-in, lift-value, on-registry}
+use Rattle.carv_scheduler_spec.specs.Scheduler.{Board, BoardReply, Value, is-blocked, record-of, word, exit-cause, Choice, idle, tick-ns, most-threads, tick-fits, inactive, running, blocked, dead, is, no-wait, wait-listed, cause-listed, is-due, results, become, ticked, thread, has, found, or-fresh, without, renew-for, has-time, charge-tick, put-back, choose, switch-to, switch-value, root-of, exit-in, lift-value, on-registry}
 use Rattle.carv_scheduler_spec.specs.laws.SoundFacts.{Sound}
 use Rattle.carv_scheduler_spec.specs.laws.Switching.{put-back-current}
 use Rattle.carv_scheduler_spec.specs.Rust as rust
@@ -88,7 +89,7 @@ pub create-user-thread-rust : (i payer : ℕ) (stack : Bool) (b : Board) → add
     → s01.create-user-thread i payer stack b ≡ creation-reply-of (rust.create-user-thread i payer stack b)
 create-user-thread-rust i payer stack b =
     skip 5 (not (has (b .threads) i)) b refl λ _. skip 5 (not (eqb i 0)) b refl λ _. skip 5 (not (eqb i idle)) b refl λ _.
-    skip 6 (ltb (length (b .threads)) 128) b refl λ _ _. test stack (λ s. rw s) (λ s. rw s)
+    skip 6 (ltb (length (b .threads)) most-threads) b refl λ _ _. test stack (λ s. rw s) (λ s. rw s)
 
 pub start-rust : (i space cspace root : ℕ) (context : Context) (b : Board)
     → s01.start i space cspace root context b ≡ said-reply-of (there (rust.thread i b)) (rust.start i space cspace root context b)

@@ -7,8 +7,9 @@ use Prim.Native.Nat.{ℕ, _^_}
 use lib.Dec.{eqb, leb}
 use lib.ListN.{length}
 use borrow.Author.Tests.{eqb-true, eqb-false, eq-eqb, ne-eqb, leb-true, le-leb, not-true}
-use Rattle.carv_area.specs.Table
-use Rattle.carv_area.specs.Table.{Row, at, test}
+use Rattle.carv_area.specs.laws.Table
+use Rattle.carv_area.specs.Table.{Row, at}
+use Rattle.carv_area.specs.laws.Table.{test}
 use Rattle.carv_budget.specs.laws.Account.{first, second}
 use Rattle.carv_objects_spec.specs.Sound.{all}
 use Rattle.carv_objects_spec.specs.laws.SoundLaws as objects

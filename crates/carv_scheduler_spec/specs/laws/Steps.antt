@@ -9,8 +9,9 @@ use native.Mathlib.Omega.{arith}
 use lib.Dec.{eqb}
 use lib.ListN.{length, length-append, drop, length-drop}
 use borrow.Author.Tests.{eqb-true, eqb-false, ne-eqb}
-use Rattle.carv_area.specs.Table
-use Rattle.carv_area.specs.Table.{Row, at, alter, erase, put, test}
+use Rattle.carv_area.specs.laws.Table
+use Rattle.carv_area.specs.Table.{Row, at, alter, erase, put}
+use Rattle.carv_area.specs.laws.Table.{test}
 use Rattle.carv_budget.specs.laws.Account.{first, second}
 use Rattle.carv_objects_spec.specs.Registry.{Registry}
 use Rattle.carv_objects_spec.specs.laws.SoundFacts as objects

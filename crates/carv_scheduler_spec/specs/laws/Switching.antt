@@ -7,8 +7,9 @@ use native.Mathlib.Omega.{arith}
 use lib.Dec.{eqb}
 use lib.ListN.{length}
 use borrow.Author.Tests.{eqb-true, eqb-false, eq-eqb, ne-eqb, not-true}
-use Rattle.carv_area.specs.Table
-use Rattle.carv_area.specs.Table.{Row, at, alter, erase, Rising, test}
+use Rattle.carv_area.specs.laws.Table
+use Rattle.carv_area.specs.Table.{Row, at, alter, erase, Rising}
+use Rattle.carv_area.specs.laws.Table.{test}
 use Rattle.carv_budget.specs.laws.Account.{first, second}
 use Rattle.carv_objects_spec.specs.Registry.{Registry}
 use Rattle.carv_objects_spec.specs.laws.SoundFacts as objects

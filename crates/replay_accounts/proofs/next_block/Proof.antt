@@ -1,7 +1,6 @@
 -- `replay_accounts::next_block` meets its contract. Assumes nothing.
-use native.Mathlib.Omega.{arith}
 use borrow.Author.Needs.{needs}
-use Rattle.replay_accounts.specs.Laws.{block-most}
+use Rattle.replay_records.specs.laws.Tally.{counted}
 use Rattle.replay_accounts.proofs.next_block.Statement.{statement}
 use Rattle.replay_accounts.proofs.next_block.Tie as tie
 
@@ -9,8 +8,10 @@ pub next-block-spec : {M : Type 1} → statement M
 next-block-spec =
     tie.close
     (tie.spec
-    (λ c. search needs)  -- slice-aggregate-read-full
-    (λ c κs. search needs)  -- read-full-requires
-    (λ c. search needs)  -- slice-aggregate-block-of
-    (λ c κs. search needs)  -- block-of-requires
-    (λ c. rw (c .block-of .ensures) (block-most _ _ (omega arith))))  -- returns
+    (λ c κs. search needs)  -- large-buffer-requires
+    (λ c. search needs)  -- slice-aggregate-read-block
+    (λ c κs. search needs)  -- read-block-requires
+    (λ c. search needs)  -- slice-aggregate-differences
+    (λ c κs. search needs)  -- differences-requires
+    (λ c κs. search needs)  -- add-requires
+    (λ c. counted _ _ _ _ _ _ _ (c .before .before .before .before .before .before .before .pre .0) (c .before .before .before .before .before .before .before .pre .1) (c .before .before .before .before .read-block .ensures) (search needs) (c .before .differences .ensures .1) (c .before .differences .ensures .0) (c .add .ensures)))  -- returns

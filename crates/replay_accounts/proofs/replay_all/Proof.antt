@@ -1,14 +1,14 @@
--- `replay_accounts::replay_all` meets its contract. The loop's invariant: what is counted leaves room for the blocks that are left, which are the measure. Assumes nothing.
-use Prim.Native.Nat.{_+_, _*_, _≤_}
+-- `replay_accounts::replay_all` meets its contract. The loop's invariant: the tally leaves room for the blocks that may come, which are the measure. Assumes nothing.
 use borrow.Author.Needs.{needs}
+use Rattle.replay_records.specs.Tally.{Room}
 use Rattle.replay_accounts.proofs.replay_all.Statement.{statement}
 use Rattle.replay_accounts.proofs.replay_all.Tie as tie
 
 abbrev Inv-loop : tie.InvT-loop
-Inv-loop calls₀ differences₀ blocks₀ calls differences blocks = (calls + 240 * blocks ≤ 240_000_000_000_000) × (differences + 241 * blocks ≤ 241_000_000_000_000)
+Inv-loop tally₀ tally = Room tally
 
 abbrev μ-loop : tie.MeasureT-loop
-μ-loop calls₀ differences₀ blocks₀ calls differences blocks = blocks
+μ-loop tally₀ tally = tally .blocks
 
 pub replay-all-spec : {M : Type 1} → statement M
 replay-all-spec =
@@ -16,12 +16,9 @@ replay-all-spec =
     (tie.spec
     Inv-loop
     μ-loop
+    (λ c κs. search needs)  -- start-requires
     (λ c. search needs)  -- loop-holds
     (λ c κs. search needs)  -- next-block-requires
-    (λ c. search needs)  -- add-calls
-    (λ c. search needs)  -- add-differences
-    (λ c. search needs)  -- sub-blocks
     (λ c. search needs)  -- loop-less
     (λ c. search needs)  -- loop-again
-    (λ c. search needs)  -- returns
-    (λ c. search needs))  -- returns-2
+    (λ c. search needs))  -- returns

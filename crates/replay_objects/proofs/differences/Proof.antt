@@ -6,13 +6,15 @@ use mathlib.Core.Path.{_≡_, _∙_}
 use native.Mathlib.Omega.{arith}
 use lib.ListN.{length}
 use borrow.Author.Needs.{needs}
-use Rattle.replay_objects.specs.Replay.{Replayed}
-use Rattle.replay_objects.specs.Laws.{one-more, one-wrong, one-right, all-done}
+use Rattle.replay_records.specs.Replayed.{Replayed}
+use Rattle.replay_records.specs.laws.Replayed.{one-wrong, one-right, all-done}
+use Rattle.replay_objects.specs.Replay.{Replays}
+use Rattle.replay_objects.specs.Laws.{one-more}
 use Rattle.replay_objects.proofs.differences.Statement.{statement}
 use Rattle.replay_objects.proofs.differences.Tie as tie
 
 abbrev Inv-loop : tie.InvT-loop
-Inv-loop area₀ buf n count₀ i₀ area count i = Replayed buf area₀ i count area × (length area ≡ length area₀) × (count ≤ i) × (i ≤ n)
+Inv-loop area₀ buf n count₀ i₀ area count i = Replays area₀ area buf i count × (length area ≡ length area₀) × (count ≤ i) × (i ≤ n)
 
 abbrev μ-loop : tie.MeasureT-loop
 μ-loop area₀ buf n count₀ i₀ area count i = n - i

@@ -1,16 +1,16 @@
--- `replay_objects::replay_all` meets its contract. The loop's invariant: what is counted leaves room for the blocks that are left, which are the measure. Assumes nothing.
-use Prim.Native.Nat.{_+_, _*_, _≤_}
+-- `replay_objects::replay_all` meets its contract. The loop's invariant: the tally leaves room for the blocks that may come, which are the measure. Assumes nothing.
 use mathlib.Core.Path.{_≡_}
 use lib.ListN.{length}
 use borrow.Author.Needs.{needs}
+use Rattle.replay_records.specs.Tally.{Room}
 use Rattle.replay_objects.proofs.replay_all.Statement.{statement}
 use Rattle.replay_objects.proofs.replay_all.Tie as tie
 
 abbrev Inv-loop : tie.InvT-loop
-Inv-loop area₀ calls₀ differences₀ blocks₀ area calls differences blocks = (length area ≡ length area₀) × (calls + 512 * blocks ≤ 512_000_000_000_000) × (differences + 513 * blocks ≤ 513_000_000_000_000)
+Inv-loop area₀ tally₀ area tally = (length area ≡ length area₀) × Room tally
 
 abbrev μ-loop : tie.MeasureT-loop
-μ-loop area₀ calls₀ differences₀ blocks₀ area calls differences blocks = blocks
+μ-loop area₀ tally₀ area tally = tally .blocks
 
 pub replay-all-spec : {M : Type 1} → statement M
 replay-all-spec =
@@ -18,14 +18,10 @@ replay-all-spec =
     (tie.spec
     Inv-loop
     μ-loop
+    (λ c κs. search needs)  -- start-requires
     (λ c. search needs)  -- loop-holds
     (λ c κs. search needs)  -- next-block-requires
-    (λ c. search needs)  -- add-calls
-    (λ c. search needs)  -- add-differences
-    (λ c. search needs)  -- sub-blocks
     (λ c. search needs)  -- loop-less
     (λ c. search needs)  -- loop-again
     (λ c. search needs)  -- same-length
-    (λ c. search needs)  -- returns
-    (λ c. search needs)  -- same-length-2
-    (λ c. search needs))  -- returns-2
+    (λ c. search needs))  -- returns

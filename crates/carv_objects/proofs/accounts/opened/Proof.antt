@@ -1,10 +1,6 @@
 -- `carv_objects::accounts::opened` meets its contract. Assumes nothing.
 use borrow.Author.Needs.{needs}
-use mathlib.Core.Path.{refl}
-use lib.Dec.{leb}
-use Rattle.carv_budget.specs.declared.Answer.the-variants.{CpuBudgetExceedsPeriod}
-use Rattle.carv_budget.specs.Account.{period, fresh, blank}
-use Rattle.carv_objects.specs.laws.Booked.{books-yes, books-no}
+use Rattle.carv_objects.specs.laws.Booked.{open-books}
 use Rattle.carv_objects.proofs.accounts.opened.Statement.{statement}
 use Rattle.carv_objects.proofs.accounts.opened.Tie as tie
 
@@ -13,6 +9,5 @@ opened-spec =
     tie.close
     (tie.spec
     (λ c κs. search needs)  -- new-requires
-    (λ c κs. search needs)  -- is-done-requires
-    (λ c. books-yes (leb (c .before .before .before .before .args .cpu) period) (fresh (c .before .before .before .before .args .cpu) (c .before .before .before .before .args .memory) 0) blank CpuBudgetExceedsPeriod refl _ (c .before .before .before .new .ensures) _ (c .before .before .is-done .ensures) (c .before .if1 .taken))  -- returns
-    (λ c. books-no (leb (c .before .before .before .args .cpu) period) (fresh (c .before .before .before .args .cpu) (c .before .before .before .args .memory) 0) blank CpuBudgetExceedsPeriod refl _ (c .before .before .new .ensures) _ (c .before .is-done .ensures) (c .if1 .left)))  -- returns-2
+    (λ c κs. search needs)  -- booking-requires
+    (λ c. open-books (c .before .before .args .cpu) (c .before .before .args .memory) _ (c .before .new .ensures) (c .booking .result) (c .booking .ensures)))  -- returns

@@ -3,7 +3,7 @@ use borrow.Author.Needs.{needs}
 use mathlib.Core.Path.{_∙_}
 use Rattle.carv_objects.specs.Area.{head}
 use Rattle.carv_objects.specs.laws.Formed.{length-head}
-use Rattle.carv_objects.specs.laws.AreaSteps.{next-set}
+use Rattle.carv_objects.specs.laws.AreaSteps.{next-put}
 use Rattle.carv_objects.proofs.area.set_next.Statement.{statement}
 use Rattle.carv_objects.proofs.area.set_next.Tie as tie
 
@@ -17,4 +17,4 @@ set-next-spec =
     (λ c. search needs)  -- part-put-end
     (λ c κs. search needs)  -- put-requires
     (λ c. search needs)  -- same-length
-    (λ c. next-set _ (c .before .before .before .before .before .pre .0) _ _ (c .before .before .before .before .before .pre .1) (c .before .before .put .kept .0 ∙ length-head (c .before .before .before .before .before .args .a .now) (c .before .before .before .before .before .pre .0 .size)) (c .before .before .put .ensures)))  -- returns
+    (λ c. next-put (c .before .before .before .before .before .args .a .now) _ (c .before .before .before .before .before .pre) (c .before .before .put .kept .0 ∙ length-head (c .before .before .before .before .before .args .a .now) (c .before .before .before .before .before .pre)) _ (c .before .before .put .ensures .words)))  -- returns

@@ -17,4 +17,4 @@ take-out-spec =
     (λ c. search needs)  -- part-remove-row-end
     (λ c κs. (remove-room _ (c .before .before .pre .0), remove-within _ (c .before .before .pre .0) _ (c .before .before .pre .1)))  -- remove-row-requires
     (λ c. search needs)  -- same-length
-    (λ c. entry-removed _ (c .before .before .before .before .before .pre .0) _ (c .before .before .remove-row .kept .0 ∙ length-table (c .before .before .before .before .before .args .a .now) (c .before .before .before .before .before .pre .0 .size)) _ (c .before .before .before .before .before .pre .1) (c .before .before .remove-row .ensures)))  -- returns
+    (λ c. entry-removed _ (c .before .before .before .before .before .pre .0) _ (c .before .before .remove-row .kept .0 ∙ length-table (c .before .before .before .before .before .args .a .now) (c .before .before .before .before .before .pre .0 .size)) _ (c .before .before .before .before .before .pre .1) (c .before .before .remove-row .ensures .words)))  -- returns

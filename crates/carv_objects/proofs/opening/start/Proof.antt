@@ -10,7 +10,7 @@ start-spec =
     tie.close
     (tie.spec
     (λ c κs. search needs)  -- write-table-requires
-    (λ c. search needs)  -- add-write-next
-    (λ c κs. search needs)  -- write-next-requires
+    (λ c. search needs)  -- add-set-next
+    (λ c κs. search needs)  -- set-next-requires
     (λ c. search needs)  -- same-length
-    (λ c. start-formed _ _ _ (c .before .before .write-next .kept .0 ∙ c .before .before .before .before .before .before .write-table .kept .0 ∙ c .before .before .before .before .before .before .before .before .before .pre) (c .before .before .before .before .before .before .write-table .ensures) (c .before .before .write-next .ensures)))  -- returns
+    (λ c. start-formed _ _ _ (c .before .before .set-next .kept .0 ∙ c .before .before .before .before .before .before .write-table .kept .0 ∙ c .before .before .before .before .before .before .before .before .before .pre) (c .before .before .before .before .before .before .write-table .ensures) (c .before .before .set-next .ensures)))  -- returns

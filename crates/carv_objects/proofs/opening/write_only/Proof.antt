@@ -10,6 +10,6 @@ write-only-spec =
     tie.close
     (tie.spec
     (λ c κs. search needs)  -- clear-requires
-    (λ c κs. (cleared-stored ((c .before .before .before .before .before .before .args .t) .now) _ (c .before .before .before .before .before .before .pre) _ refl (c .before .before .before .clear .ensures), cleared-room ((c .before .before .before .before .before .before .args .t) .now) _ (c .before .before .before .before .before .before .pre) _ refl (c .before .before .before .clear .ensures) (c .before .before .before .clear .kept .0)))  -- append-entry-requires
+    (λ c κs. (cleared-stored ((c .before .before .before .before .before .before .args .t) .now) _ (c .before .before .before .before .before .before .pre) _ refl (c .before .before .before .clear .ensures .words), cleared-room ((c .before .before .before .before .before .before .args .t) .now) _ (c .before .before .before .before .before .before .pre) _ refl (c .before .before .before .clear .ensures .words) (c .before .before .before .clear .kept .0)))  -- append-entry-requires
     (λ c. search needs)  -- same-length
-    (λ c. only-row ((c .before .before .before .before .before .before .before .before .before .args .t) .now) _ (c .before .before .before .before .before .before .before .before .before .pre) _ refl (c .before .before .before .before .before .before .clear .ensures) _ _ (c .before .before .append-entry .ensures)))  -- returns
+    (λ c. only-row ((c .before .before .before .before .before .before .before .before .before .args .t) .now) _ (c .before .before .before .before .before .before .before .before .before .pre) _ refl (c .before .before .before .before .before .before .clear .ensures .words) _ _ (c .before .before .append-entry .ensures)))  -- returns

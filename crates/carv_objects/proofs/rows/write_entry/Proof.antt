@@ -19,4 +19,4 @@ write-entry-spec =
     (λ c κs. search needs)  -- put-requires-4
     (λ c κs. search needs)  -- write-account-requires
     (λ c. search needs)  -- same-length
-    (λ c. row-set _ _ _ _ _ _ _ _ _ (c .before .before .before .before .before .before .before .before .before .before .before .before .before .before .before .before .before .before .put .ensures) (c .before .before .before .before .before .before .before .before .before .before .before .before .before .before .put2 .ensures) (c .before .before .before .before .before .before .before .before .before .before .put3 .ensures) (c .before .before .before .before .before .before .put4 .ensures) (c .before .before .write-account .ensures)))  -- returns
+    (λ c. row-set _ _ _ _ _ _ _ _ _ (c .before .before .before .before .before .before .before .before .before .before .before .before .before .before .before .before .before .before .put .ensures .words) (c .before .before .before .before .before .before .before .before .before .before .before .before .before .before .put2 .ensures .words) (c .before .before .before .before .before .before .before .before .before .before .put3 .ensures .words) (c .before .before .before .before .before .before .put4 .ensures .words) (c .before .before .write-account .ensures)))  -- returns

@@ -6,7 +6,8 @@ use mathlib.Core.Bool.{_&&_}
 use Prim.Native.Nat.{_-_}
 use lib.ListN.{length, drop}
 use lib.Dec.{eqb}
-use Rattle.carv_area.specs.Zero.{allZero, zero-more, zero-done}
+use Rattle.carv_area.specs.Zero.{allZero}
+use Rattle.carv_area.specs.laws.Zero.{zero-more, zero-done}
 use borrow.Author.Needs.{needs}
 use Rattle.carv_objects.proofs.sound.is_zero.Statement.{statement}
 use Rattle.carv_objects.proofs.sound.is_zero.Tie as tie

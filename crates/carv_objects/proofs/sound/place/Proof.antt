@@ -24,7 +24,7 @@ place-spec =
     (λ c. search needs)  -- mul-get
     (λ c. search needs)  -- add-get
     (λ c κs. search needs)  -- get-requires
-    (λ c. record { most = omega arith; found = λ l. omega arith; none = λ l. absurd (omega arith) })  -- returns
+    (λ c. (omega arith, omega arith))  -- returns
     (λ c. near (words _) _ _)  -- loop-holds
     (λ c. search needs)  -- add-get-2
     (λ c. search needs)  -- mul-get-2
@@ -42,6 +42,6 @@ place-spec =
     (λ c. search needs)  -- mul-get-3
     (λ c. search needs)  -- add-get-4
     (λ c κs. search needs)  -- get-requires-3
-    (λ c. record { most = omega arith; found = λ l. omega arith; none = λ l. absurd (omega arith) })  -- returns-2
+    (λ c. (omega arith, omega arith))  -- returns-2
     (λ c. near-other (c .before .before .before .before .loop .inv) (omega arith) (λ e. c .if5 .left (omega arith)))  -- returns-3
     (λ c. near-past (c .before .before .loop .inv) (omega arith)))  -- returns-4

@@ -2,7 +2,7 @@
 use borrow.Author.Needs.{needs}
 use native.Mathlib.Omega.{arith}
 use mathlib.Core.Path.{_∙_}
-use Rattle.carv_area.specs.Stored.{queue-at}
+use Rattle.carv_area.specs.laws.Stored.{queue-at}
 use Rattle.carv_scheduler.specs.Area.{queue-part}
 use Rattle.carv_scheduler.specs.laws.AreaSteps.{queue-room}
 use Rattle.carv_scheduler.proofs.area.queue_at.Statement.{statement}

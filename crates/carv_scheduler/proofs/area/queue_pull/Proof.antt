@@ -17,4 +17,4 @@ queue-pull-spec =
     (λ c. search needs)  -- part-pull-end
     (λ c κs. (c .before .before .pre .0 .queue, c .before .before .pre .1))  -- pull-requires
     (λ c. search needs)  -- same-length
-    (λ c. (c .before .before .pull .ensures .0, queue-written _ (c .before .before .before .before .before .pre .0) _ _ (c .before .before .pull .kept .0 ∙ length-queue (c .before .before .before .before .before .args .a .now) (c .before .before .before .before .before .pre .0 .size)) (c .before .before .pull .ensures .1))))  -- returns
+    (λ c. (c .before .before .pull .ensures .0, queue-written _ (c .before .before .before .before .before .pre .0) _ _ (c .before .before .pull .kept .0 ∙ length-queue (c .before .before .before .before .before .args .a .now) (c .before .before .before .before .before .pre .0 .size)) (c .before .before .pull .ensures .1 .0))))  -- returns

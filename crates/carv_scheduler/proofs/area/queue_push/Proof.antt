@@ -18,4 +18,4 @@ queue-push-spec =
     (λ c. search needs)  -- part-push-end
     (λ c κs. (c .before .before .pre .0 .queue, omega (arith, length-queue (c .before .before .args .a .now) (c .before .before .pre .0 .size), c .before .before .pre .1)))  -- push-requires
     (λ c. search needs)  -- same-length
-    (λ c. queue-written _ (c .before .before .before .before .before .pre .0) _ _ (c .before .before .push .kept .0 ∙ length-queue (c .before .before .before .before .before .args .a .now) (c .before .before .before .before .before .pre .0 .size)) (c .before .before .push .ensures)))  -- returns
+    (λ c. queue-written _ (c .before .before .before .before .before .pre .0) _ _ (c .before .before .push .kept .0 ∙ length-queue (c .before .before .before .before .before .args .a .now) (c .before .before .before .before .before .pre .0 .size)) (c .before .before .push .ensures .0)))  -- returns

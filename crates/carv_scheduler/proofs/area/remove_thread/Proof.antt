@@ -16,4 +16,4 @@ remove-thread-spec =
     (λ c. search needs)  -- part-remove-row-end
     (λ c κs. (threads-room _ (c .before .before .pre .0), thread-counted _ (c .before .before .pre .0) _ (c .before .before .pre .1)))  -- remove-row-requires
     (λ c. search needs)  -- same-length
-    (λ c. thread-removed _ (c .before .before .before .before .before .pre .0) _ (c .before .before .remove-row .kept .0 ∙ length-threads (c .before .before .before .before .before .args .a .now) (c .before .before .before .before .before .pre .0 .size)) _ (c .before .before .before .before .before .pre .1) (c .before .before .remove-row .ensures)))  -- returns
+    (λ c. thread-removed _ (c .before .before .before .before .before .pre .0) _ (c .before .before .remove-row .kept .0 ∙ length-threads (c .before .before .before .before .before .args .a .now) (c .before .before .before .before .before .pre .0 .size)) _ (c .before .before .before .before .before .pre .1) (c .before .before .remove-row .ensures .words)))  -- returns

@@ -22,7 +22,7 @@ block-current-spec =
     (λ c κs. (area-formed _ (c .before .before .before .before .before .before .pre), c .before .current-place .ensures .within))  -- thread-at-requires
     (λ c. search needs)  -- same-length
     (λ c. refused _ _ (c .before .before .before .before .before .before .before .before .before .pre) 8 (block-other (c .before .before .before .before .before .before .before .before .before .args .kind) (c .before .before .before .before .before .before .before .before .before .args .number) (decode (c .before .before .before .before .before .before .before .before .before .args .a .now)) (said-so _ _ (c .before .before .before .before .before .before .before .is-wait-listed .ensures) (c .before .before .before .before .before .before .if1 .left)) (here-not ((decode (c .before .before .before .before .before .before .before .before .before .args .a .now)) .threads) _ _ (c .before .before .before .before .current-place .ensures) _ (c .before .before .thread-at .ensures) 3 (c .if2 .taken))))  -- returns-2
-    (λ c κs. area-formed _ (c .before .before .before .before .before .before .before .before .before .before .pre))  -- current-requires
+    (λ c κs. area-formed _ (c .before .before .before .before .before .before .before .before .before .before .pre) .size)  -- current-requires
     (λ c. search needs)  -- same-length-2
     (λ c. refused _ _ (c .before .before .before .before .before .before .before .before .before .before .before .before .pre) 8 (block-idle (c .before .before .before .before .before .before .before .before .before .before .before .before .args .kind) (c .before .before .before .before .before .before .before .before .before .before .before .before .args .number) (decode (c .before .before .before .before .before .before .before .before .before .before .before .before .args .a .now)) (said-so _ _ (c .before .before .before .before .before .before .before .before .before .before .is-wait-listed .ensures) (c .before .before .before .before .before .before .before .before .before .if1 .left)) (here-is ((decode (c .before .before .before .before .before .before .before .before .before .before .before .before .args .a .now)) .threads) _ _ (c .before .before .before .before .before .before .before .current-place .ensures) _ (c .before .before .before .before .before .thread-at .ensures) 3 (c .before .before .before .if2 .left)) (sym (c .before .current .ensures) ∙ c .if3 .taken)))  -- returns-3
     (λ c κs. (area-formed _ (c .before .before .before .before .before .before .before .before .before .before .before .before .before .pre), c .before .before .before .before .before .before .before .before .current-place .ensures .within))  -- set-state-requires

@@ -12,5 +12,5 @@ pub current-spec : {M : Type 1} → statement M
 current-spec =
     tie.close
     (tie.spec
-    (λ c κs. area-formed _ (c .before .pre))  -- current-requires
+    (λ c κs. area-formed _ (c .before .pre) .size)  -- current-requires
     (λ c. read-serves _ _ (c .before .before .pre) _ refl refl _ refl (ap (λ (n : ℕ). some (word n)) (c .current .ensures))))  -- returns

@@ -10,7 +10,7 @@ pub current-place-spec : {M : Type 1} → statement M
 current-place-spec =
     tie.close
     (tie.spec
-    (λ c κs. area-formed _ (c .before .pre))  -- current-requires
+    (λ c κs. area-formed _ (c .before .pre) .size)  -- current-requires
     (λ c κs. area-formed _ (c .before .before .pre))  -- find-thread-requires
     (λ c. search needs)  -- enum-known-i
     (λ c. search needs)  -- enum-told

@@ -18,4 +18,4 @@ append-exit-spec =
     (λ c. search needs)  -- add-put-3
     (λ c κs. search needs)  -- put-requires-3
     (λ c. search needs)  -- same-length
-    (λ c. exit-appended _ _ (c .before .before .before .before .before .before .before .before .before .before .before .before .before .before .before .pre .0) _ _ _ _ (c .before .before .before .before .before .before .before .before .before .before .before .before .get .ensures) (c .before .before .before .before .before .before .before .before .before .before .before .before .before .before .before .pre .1) (c .before .before .before .before .before .before .before .before .before .before .put .ensures) (c .before .before .before .before .before .before .put2 .ensures) (c .before .before .put3 .ensures)))  -- returns
+    (λ c. exit-appended _ _ (c .before .before .before .before .before .before .before .before .before .before .before .before .before .before .before .pre .0) _ _ _ _ (c .before .before .before .before .before .before .before .before .before .before .before .before .get .ensures) (c .before .before .before .before .before .before .before .before .before .before .before .before .before .before .before .pre .1) (c .before .before .before .before .before .before .before .before .before .before .put .ensures .words) (c .before .before .before .before .before .before .put2 .ensures .words) (c .before .before .put3 .ensures .words)))  -- returns

@@ -16,4 +16,4 @@ drop-oldest-spec =
     (λ c. search needs)  -- part-remove-row-end
     (λ c κs. (exits-room _ (c .before .before .pre .0), exit-counted _ (c .before .before .pre .0) _ (c .before .before .pre .1)))  -- remove-row-requires
     (λ c. search needs)  -- same-length
-    (λ c. oldest-dropped _ (c .before .before .before .before .before .pre .0) _ (c .before .before .remove-row .kept .0 ∙ length-exits (c .before .before .before .before .before .args .a .now) (c .before .before .before .before .before .pre .0 .size)) (c .before .before .before .before .before .pre .1) (c .before .before .remove-row .ensures)))  -- returns
+    (λ c. oldest-dropped _ (c .before .before .before .before .before .pre .0) _ (c .before .before .remove-row .kept .0 ∙ length-exits (c .before .before .before .before .before .args .a .now) (c .before .before .before .before .before .pre .0 .size)) (c .before .before .before .before .before .pre .1) (c .before .before .remove-row .ensures .words)))  -- returns

@@ -8,7 +8,7 @@ pub end-thread-spec : {M : Type 1} → statement M
 end-thread-spec =
     tie.close
     (tie.spec
-    (λ c κs. c .before .before .pre .0)  -- current-requires
+    (λ c κs. c .before .before .pre .0 .size)  -- current-requires
     (λ c κs. (c .before .before .before .before .before .pre .0, c .before .before .before .before .before .pre .1 .within))  -- set-state-requires
     (λ c. search needs)  -- same-length
     (λ c. killed-current (c .before .before .before .before .before .before .before .before .args .a .now) _ _ (c .before .before .before .before .before .before .before .before .pre .1) _ (c .before .before .before .before .before .current .ensures) (c .before .before .before .before .if1 .taken) _ (c .before .before .set-state .ensures))  -- returns

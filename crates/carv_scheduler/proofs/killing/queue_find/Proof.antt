@@ -6,7 +6,7 @@ use native.Mathlib.Nat.{not-suc-le-zero}
 use mathlib.Core.Path.{_≡_, sym, _∙_}
 use lib.ListN.{length, getD}
 use borrow.Author.Needs.{needs}
-use Rattle.carv_area.specs.Keys.{find-none, find-at}
+use Rattle.carv_area.specs.laws.Keys.{find-none, find-at}
 use Rattle.carv_scheduler.specs.Area.{decode}
 use Rattle.carv_scheduler.specs.laws.KillSteps.{none-further}
 use Rattle.carv_scheduler.proofs.killing.queue_find.Statement.{statement}

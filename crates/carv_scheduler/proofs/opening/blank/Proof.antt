@@ -10,9 +10,6 @@ blank-spec =
     tie.close
     (tie.spec
     (λ c κs. c .before .before .pre)  -- open-registry-requires
-    (λ c κs. c .before .before .before .open-registry .ensures .size ∙ c .before .before .before .before .before .before .pre .0)  -- clear-head-requires
-    (λ c κs. c .before .before .before .clear-head .ensures .size ∙ c .before .before .before .before .before .before .before .open-registry .ensures .size ∙ c .before .before .before .before .before .before .before .before .before .before .pre .0)  -- clear-threads-requires
-    (λ c κs. c .before .before .before .clear-threads .ensures .size ∙ c .before .before .before .before .before .before .before .clear-head .ensures .size ∙ c .before .before .before .before .before .before .before .before .before .before .before .open-registry .ensures .size ∙ c .before .before .before .before .before .before .before .before .before .before .before .before .before .before .pre .0)  -- clear-queue-requires
-    (λ c κs. c .before .before .before .clear-queue .ensures .size ∙ c .before .before .before .before .before .before .before .clear-threads .ensures .size ∙ c .before .before .before .before .before .before .before .before .before .before .before .clear-head .ensures .size ∙ c .before .before .before .before .before .before .before .before .before .before .before .before .before .before .before .open-registry .ensures .size ∙ c .before .before .before .before .before .before .before .before .before .before .before .before .before .before .before .before .before .before .pre .0)  -- clear-exits-requires
+    (λ c κs. c .before .before .before .open-registry .ensures .size ∙ c .before .before .before .before .before .before .pre .0)  -- clear-rest-requires
     (λ c. search needs)  -- same-length
-    (λ c. blank-formed _ _ _ _ _ _ _ _ (c .before .before .before .before .before .before .before .before .before .before .before .before .before .before .before .before .before .before .before .before .before .pre .0) (c .before .before .before .before .before .before .before .before .before .before .before .before .before .before .before .before .before .before .open-registry .ensures) (c .before .before .before .before .before .before .before .before .before .before .before .before .before .before .clear-head .ensures) (c .before .before .before .before .before .before .before .before .before .before .clear-threads .ensures) (c .before .before .before .before .before .before .clear-queue .ensures) (c .before .before .clear-exits .ensures)))  -- returns
+    (λ c. blank-formed _ _ _ _ _ (c .before .before .before .before .before .before .before .before .before .pre .0) (c .before .before .before .before .before .before .open-registry .ensures) (c .before .before .clear-rest .ensures)))  -- returns

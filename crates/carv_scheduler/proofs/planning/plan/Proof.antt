@@ -12,7 +12,7 @@ plan-spec =
     (tie.spec
     (λ c. plan-refused _ (c .before .before .pre) _ (c .if1 .taken))  -- returns
     (λ c. search needs)  -- mul-time
-    (λ c κs. area-formed _ (c .before .before .before .pre))  -- current-requires
+    (λ c κs. area-formed _ (c .before .before .before .pre) .size)  -- current-requires
     (λ c κs. search needs)  -- put-back-requires
     (λ c κs. search needs)  -- choose-requires
     (λ c κs. (planned-formed (c .before .before .before .before .before .before .before .before .before .before .before .before .before .args .a .now) (c .before .before .before .before .before .before .before .before .before .before .before .before .before .pre) (c .before .before .before .before .before .before .before .before .before .before .before .before .before .args .n) _ (c .before .before .before .before .before .before .before .before .before .current .ensures) _ _ (c .before .before .before .before .before .before .before .put-back .ensures) _ _ _ (c .before .before .before .choose .ensures), (planned-current (c .before .before .before .before .before .before .before .before .before .before .before .before .before .args .a .now) (c .before .before .before .before .before .before .before .before .before .before .before .before .before .pre) (c .before .before .before .before .before .before .before .before .before .before .before .before .before .args .n) _ (c .before .before .before .before .before .before .before .before .before .current .ensures) _ _ (c .before .before .before .before .before .before .before .put-back .ensures) _ _ _ (c .before .before .before .choose .ensures), (planned-dead (c .before .before .before .before .before .before .before .before .before .before .before .before .before .args .a .now) (c .before .before .before .before .before .before .before .before .before .before .before .before .before .pre) (c .before .before .before .before .before .before .before .before .before .before .before .before .before .args .n) _ (c .before .before .before .before .before .before .before .before .before .current .ensures) _ _ (c .before .before .before .before .before .before .before .put-back .ensures) _ _ _ (c .before .before .before .choose .ensures), planned-here (c .before .before .before .before .before .before .before .before .before .before .before .before .before .args .a .now) (c .before .before .before .before .before .before .before .before .before .before .before .before .before .pre) (c .before .before .before .before .before .before .before .before .before .before .before .before .before .args .n) _ (c .before .before .before .before .before .before .before .before .before .current .ensures) _ _ (c .before .before .before .before .before .before .before .put-back .ensures) _ _ _ (c .before .before .before .choose .ensures)))))  -- switch-to-requires

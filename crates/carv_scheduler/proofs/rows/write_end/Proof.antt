@@ -13,4 +13,4 @@ write-end-spec =
     (λ c. search needs)  -- add-put
     (λ c κs. search needs)  -- put-requires
     (λ c. search needs)  -- same-length
-    (λ c. end-set _ _ _ (c .before .before .before .before .before .before .before .before .before .args .i) _ _ (c .before .before .before .before .before .before .write-results .ensures) (c .before .before .put .ensures)))  -- returns
+    (λ c. end-set _ _ _ (c .before .before .before .before .before .before .before .before .before .args .i) _ _ (c .before .before .before .before .before .before .write-results .ensures) (c .before .before .put .ensures .words)))  -- returns

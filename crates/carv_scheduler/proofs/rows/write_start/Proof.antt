@@ -17,4 +17,4 @@ write-start-spec =
     (λ c. search needs)  -- add-put-3
     (λ c κs. search needs)  -- put-requires-3
     (λ c. search needs)  -- same-length
-    (λ c. start-set _ _ _ _ _ (c .before .before .before .before .before .before .before .before .before .before .before .before .before .before .before .before .before .args .i) _ _ _ (c .before .before .before .before .before .before .before .before .before .before .before .before .before .before .before .before .before .args .budget) (c .before .before .before .before .before .before .before .before .before .before .before .before .before .before .put .ensures) (c .before .before .before .before .before .before .before .before .before .before .write-state .ensures) (c .before .before .before .before .before .before .put2 .ensures) (c .before .before .put3 .ensures)))  -- returns
+    (λ c. start-set _ _ _ _ _ (c .before .before .before .before .before .before .before .before .before .before .before .before .before .before .before .before .before .args .i) _ _ _ (c .before .before .before .before .before .before .before .before .before .before .before .before .before .before .before .before .before .args .budget) (c .before .before .before .before .before .before .before .before .before .before .before .before .before .before .put .ensures .words) (c .before .before .before .before .before .before .before .before .before .before .write-state .ensures) (c .before .before .before .before .before .before .put2 .ensures .words) (c .before .before .put3 .ensures .words)))  -- returns

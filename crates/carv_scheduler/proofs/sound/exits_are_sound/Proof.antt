@@ -15,10 +15,10 @@ use Rattle.carv_scheduler.proofs.sound.exits_are_sound.Statement.{state
 use Rattle.carv_scheduler.proofs.sound.exits_are_sound.Tie as tie
 
 abbrev Inv-loop : tie.InvT-loop
-Inv-loop x n n' i₀ i = (i ≤ n') × ((k : ℕ) → k < i → Listed (words x) k)
+Inv-loop x n i₀ i = (i ≤ n) × ((k : ℕ) → k < i → Listed (words x) k)
 
 abbrev μ-loop : tie.MeasureT-loop
-μ-loop x n n' i₀ i = n' - i
+μ-loop x n i₀ i = n - i
 
 pub exits-are-sound-spec : {M : Type 1} → statement M
 exits-are-sound-spec =

@@ -6,7 +6,7 @@ use mathlib.Core.Path.{_≡_}
 use mathlib.Core.Bool.{true≢false, false≢true}
 use lib.ListN.{length, length-set}
 use Rattle.carv_area.specs.Words.{words}
-use Rattle.carv_area.specs.WordLaws.{word-below}
+use Rattle.carv_area.specs.laws.Words.{word-below}
 use Rattle.carv_scheduler.specs.laws.SoundWalk.{Order}
 use Rattle.carv_scheduler.specs.laws.SoundRows.{order-none, order-first, order-more, order-off, order-all}
 use Rattle.carv_scheduler.proofs.sound.ids_rise.Statement.{statement}

@@ -18,31 +18,16 @@ thread-fits-spec =
     (λ c κs. search needs)  -- get-requires-2
     (λ c κs. search needs)  -- state-fits-requires
     (λ c. record { so = λ e. absurd (false≢true e); not = λ e. no-state (words ((c .before .before .before .before .before .args .t) .now)) (c .before .before .before .before .before .args .current) (c .before .before .before .before .before .args .i) (c .before .before .before .before .before .args .queued) _ _ (c .before .before .before .get .ensures) (c .before .before .get2 .ensures) _ (c .before .state-fits .ensures) (not-true _ (c .if1 .taken)) })  -- returns
-    (λ c. search needs)  -- add-get-3
-    (λ c κs. search needs)  -- get-requires-3
-    (λ c. search needs)  -- add-get-4
-    (λ c. search needs)  -- add-get-5
-    (λ c κs. search needs)  -- get-requires-4
+    (λ c. search needs)  -- add-read-wait
+    (λ c κs. search needs)  -- read-wait-requires
     (λ c κs. search needs)  -- wait-fits-requires
-    (λ c. record { so = λ e. absurd (false≢true e); not = λ e. no-wait (words ((c .before .before .before .before .before .before .before .before .before .args .t) .now)) (c .before .before .before .before .before .before .before .before .before .args .current) (c .before .before .before .before .before .before .before .before .before .args .i) (c .before .before .before .before .before .before .before .before .before .args .queued) _ _ (c .before .before .before .before .before .before .before .get .ensures) (c .before .before .before .before .before .before .get2 .ensures) _ _ (c .before .before .before .get3 .ensures) (c .before .before .get4 .ensures) _ (c .before .wait-fits .ensures) (not-true _ (c .if2 .taken)) })  -- returns-2
-    (λ c. search needs)  -- add-get-6
-    (λ c κs. search needs)  -- get-requires-5
-    (λ c. search needs)  -- add-get-7
-    (λ c. search needs)  -- add-get-8
-    (λ c κs. search needs)  -- get-requires-6
+    (λ c. record { so = λ e. absurd (false≢true e); not = λ e. no-wait (words ((c .before .before .before .before .before .before .before .before .args .t) .now)) (c .before .before .before .before .before .before .before .before .args .current) (c .before .before .before .before .before .before .before .before .args .i) (c .before .before .before .before .before .before .before .before .args .queued) _ _ (c .before .before .before .before .before .before .get .ensures) (c .before .before .before .before .before .get2 .ensures) _ (c .before .before .read-wait .ensures) _ (c .before .wait-fits .ensures) (not-true _ (c .if2 .taken)) })  -- returns-2
+    (λ c. search needs)  -- add-read-budget-id
+    (λ c κs. search needs)  -- read-budget-id-requires
     (λ c κs. search needs)  -- budget-fits-requires
-    (λ c. record { so = λ e. absurd (false≢true e); not = λ e. no-budget (words ((c .before .before .before .before .before .before .before .before .before .before .before .before .before .args .t) .now)) (c .before .before .before .before .before .before .before .before .before .before .before .before .before .args .current) (c .before .before .before .before .before .before .before .before .before .before .before .before .before .args .i) (c .before .before .before .before .before .before .before .before .before .before .before .before .before .args .queued) _ _ (c .before .before .before .before .before .before .before .before .before .before .before .get .ensures) (c .before .before .before .before .before .before .before .before .before .before .get2 .ensures) _ _ (c .before .before .before .before .before .before .before .get3 .ensures) (c .before .before .before .before .before .before .get4 .ensures) _ _ (c .before .before .before .get5 .ensures) (c .before .before .get6 .ensures) _ (c .before .budget-fits .ensures) (not-true _ (c .if3 .taken)) })  -- returns-3
-    (λ c. search needs)  -- add-get-9
-    (λ c κs. search needs)  -- get-requires-7
-    (λ c. search needs)  -- add-get-10
-    (λ c. search needs)  -- add-get-11
-    (λ c κs. search needs)  -- get-requires-8
-    (λ c. search needs)  -- add-get-12
-    (λ c. search needs)  -- add-get-13
-    (λ c κs. search needs)  -- get-requires-9
-    (λ c. search needs)  -- add-get-14
-    (λ c. search needs)  -- add-get-15
-    (λ c κs. search needs)  -- get-requires-10
+    (λ c. record { so = λ e. absurd (false≢true e); not = λ e. no-budget (words ((c .before .before .before .before .before .before .before .before .before .before .before .args .t) .now)) (c .before .before .before .before .before .before .before .before .before .before .before .args .current) (c .before .before .before .before .before .before .before .before .before .before .before .args .i) (c .before .before .before .before .before .before .before .before .before .before .before .args .queued) _ _ (c .before .before .before .before .before .before .before .before .before .get .ensures) (c .before .before .before .before .before .before .before .before .get2 .ensures) _ (c .before .before .before .before .before .read-wait .ensures) _ (c .before .before .read-budget-id .ensures) _ (c .before .budget-fits .ensures) (not-true _ (c .if3 .taken)) })  -- returns-3
+    (λ c. search needs)  -- add-read-spaces
+    (λ c κs. search needs)  -- read-spaces-requires
     (λ c κs. search needs)  -- space-fits-requires
-    (λ c. space-tells (words ((c .before .before .before .before .before .before .before .before .before .before .before .before .before .before .before .before .before .before .args .t) .now)) (c .before .before .before .before .before .before .before .before .before .before .before .before .before .before .before .before .before .before .args .current) (c .before .before .before .before .before .before .before .before .before .before .before .before .before .before .before .before .before .before .args .i) (c .before .before .before .before .before .before .before .before .before .before .before .before .before .before .before .before .before .before .args .queued) _ _ (c .before .before .before .before .before .before .before .before .before .before .before .before .before .before .before .before .get .ensures) (c .before .before .before .before .before .before .before .before .before .before .before .before .before .before .before .get2 .ensures) _ _ (c .before .before .before .before .before .before .before .before .before .before .before .before .get3 .ensures) (c .before .before .before .before .before .before .before .before .before .before .before .get4 .ensures) _ _ (c .before .before .before .before .before .before .before .before .get5 .ensures) (c .before .before .before .before .before .before .before .get6 .ensures) _ _ _ _ (c .before .before .before .before .get7 .ensures) (c .before .before .before .get8 .ensures) (c .before .before .get9 .ensures) (c .before .get10 .ensures)
-    _ (c .before .before .before .before .before .before .before .before .before .before .before .before .before .before .state-fits .ensures) (not-false _ (c .before .before .before .before .before .before .before .before .before .before .before .before .before .if1 .left)) _ (c .before .before .before .before .before .before .before .before .before .before .wait-fits .ensures) (not-false _ (c .before .before .before .before .before .before .before .before .before .if2 .left)) _ (c .before .before .before .before .before .before .budget-fits .ensures) (not-false _ (c .before .before .before .before .before .if3 .left)) _ (c .space-fits .ensures)))  -- returns-4
+    (λ c. space-tells (words ((c .before .before .before .before .before .before .before .before .before .before .before .before .before .args .t) .now)) (c .before .before .before .before .before .before .before .before .before .before .before .before .before .args .current) (c .before .before .before .before .before .before .before .before .before .before .before .before .before .args .i) (c .before .before .before .before .before .before .before .before .before .before .before .before .before .args .queued) _ _ (c .before .before .before .before .before .before .before .before .before .before .before .get .ensures) (c .before .before .before .before .before .before .before .before .before .before .get2 .ensures) _ (c .before .before .before .before .before .before .before .read-wait .ensures) _ (c .before .before .before .before .read-budget-id .ensures) _ (c .before .read-spaces .ensures)
+    _ (c .before .before .before .before .before .before .before .before .before .state-fits .ensures) (not-false _ (c .before .before .before .before .before .before .before .before .if1 .left)) _ (c .before .before .before .before .before .before .wait-fits .ensures) (not-false _ (c .before .before .before .before .before .if2 .left)) _ (c .before .before .before .budget-fits .ensures) (not-false _ (c .before .before .if3 .left)) _ (c .space-fits .ensures)))  -- returns-4

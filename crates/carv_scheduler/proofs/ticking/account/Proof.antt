@@ -12,7 +12,7 @@ pub account-spec : {M : Type 1} → statement M
 account-spec =
     tie.close
     (tie.spec
-    (λ c κs. area-formed _ (c .before .before .pre))  -- current-requires
+    (λ c κs. area-formed _ (c .before .before .pre) .size)  -- current-requires
     (λ c κs. area-formed _ (c .before .before .before .before .pre))  -- find-thread-requires
     (λ c. search needs)  -- enum-known-i
     (λ c. search needs)  -- enum-told

@@ -9,17 +9,17 @@ unfolding account
 account-at-spec =
     tie.close
     (tie.spec
-    (λ c κs. search needs)  -- word-at-requires
-    (λ c. search needs)  -- add-word-at
-    (λ c κs. search needs)  -- word-at-requires-2
-    (λ c. search needs)  -- add-word-at-2
-    (λ c κs. search needs)  -- word-at-requires-3
-    (λ c. search needs)  -- add-word-at-3
-    (λ c κs. search needs)  -- word-at-requires-4
-    (λ c. search needs)  -- add-word-at-4
-    (λ c κs. search needs)  -- word-at-requires-5
-    (λ c. search needs)  -- add-word-at-5
-    (λ c κs. search needs)  -- word-at-requires-6
-    (λ c. search needs)  -- add-word-at-6
-    (λ c κs. search needs)  -- word-at-requires-7
+    (λ c κs. search needs)  -- get-requires
+    (λ c. search needs)  -- add-get
+    (λ c κs. search needs)  -- get-requires-2
+    (λ c. search needs)  -- add-get-2
+    (λ c κs. search needs)  -- get-requires-3
+    (λ c. search needs)  -- add-get-3
+    (λ c κs. search needs)  -- get-requires-4
+    (λ c. search needs)  -- add-get-4
+    (λ c κs. search needs)  -- get-requires-5
+    (λ c. search needs)  -- add-get-5
+    (λ c κs. search needs)  -- get-requires-6
+    (λ c. search needs)  -- add-get-6
+    (λ c κs. search needs)  -- get-requires-7
     (λ c. cc))  -- returns

@@ -9,15 +9,15 @@ unfolding call
 call-at-spec =
     tie.close
     (tie.spec
-    (λ c κs. search needs)  -- word-at-requires
+    (λ c κs. search needs)  -- get-requires
     (λ c. search needs)  -- add-account-at
     (λ c κs. search needs)  -- account-at-requires
     (λ c. search needs)  -- add-account-at-2
     (λ c κs. search needs)  -- account-at-requires-2
-    (λ c. search needs)  -- add-word-at
-    (λ c κs. search needs)  -- word-at-requires-2
-    (λ c. search needs)  -- add-word-at-2
-    (λ c κs. search needs)  -- word-at-requires-3
-    (λ c. search needs)  -- add-word-at-3
-    (λ c κs. search needs)  -- word-at-requires-4
+    (λ c. search needs)  -- add-get
+    (λ c κs. search needs)  -- get-requires-2
+    (λ c. search needs)  -- add-get-2
+    (λ c κs. search needs)  -- get-requires-3
+    (λ c. search needs)  -- add-get-3
+    (λ c κs. search needs)  -- get-requires-4
     (λ c. cc))  -- returns

@@ -9,10 +9,10 @@ unfolding reply
 reply-at-spec =
     tie.close
     (tie.spec
-    (λ c. search needs)  -- add-word-at
-    (λ c κs. search needs)  -- word-at-requires
-    (λ c. search needs)  -- add-word-at-2
-    (λ c κs. search needs)  -- word-at-requires-2
+    (λ c. search needs)  -- add-get
+    (λ c κs. search needs)  -- get-requires
+    (λ c. search needs)  -- add-get-2
+    (λ c κs. search needs)  -- get-requires-2
     (λ c. search needs)  -- add-account-at
     (λ c κs. search needs)  -- account-at-requires
     (λ c. search needs)  -- add-account-at-2
