@@ -122,12 +122,13 @@ AllWords [] = Unit {0}
 AllWords (e ∷ es) = Fits (e .call) × AllWords es
 
 -- The answers are the Rust's, and the Rust gives them: on the way none of its `expect`s fails and no sum leaves 64 bits (`Panics.antt`).
-pub record AsTheRust (es : List Made) (cpu memory : ℕ) : Type 0 where
+pub record AsTheRust (es : List Made) (a : List ℕ) (cpu memory : ℕ) : Type 0 where
+  pub opened : Is a (rust.new cpu memory)
   pub answers : AsRust es (rust.new cpu memory)
   pub no-panics : memory < 2 ^ 64 → AllWords es → AllPass (panics.new 1 cpu memory) × NoPanics (map (λ (e : Made). e .call) es) 2 (rust.new cpu memory)
 
 abbrev pub Demand2 : Type 0
-Demand2 = (cpu memory : ℕ) (a₀ a out out′ : List ℕ) → Opens cpu memory a₀ out 0 a out′ → (es : List Made) → Ran es a → NoneAdded es → AsTheRust es cpu memory
+Demand2 = (cpu memory : ℕ) (a₀ a out out′ : List ℕ) → Opens cpu memory a₀ out 0 a out′ → (es : List Made) → Ran es a → NoneAdded es → AsTheRust es a cpu memory
 
 -- Demand 3. The book is fed the arguments and, of the answers, only the numbers.
 abbrev pub told : List Made → List Numbered

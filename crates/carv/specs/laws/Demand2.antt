@@ -9,7 +9,7 @@ use Rattle.carv_scheduler.specs.Answer.{number}
 use Rattle.carv_scheduler_spec.specs.Scheduler.{Board, BoardReply, opening}
 use Rattle.carv_scheduler_spec.specs.Rust as rust
 use Rattle.carv_scheduler_spec.specs.laws.Refines as refines
-use Rattle.carv_scheduler.specs.Area.{decode, sound-area}
+use Rattle.carv_scheduler.specs.Area.{decode, sound-area, Is}
 use Rattle.carv_scheduler.specs.laws.AreaLaws.{area-sound}
 use Rattle.carv.specs.C.{Opens, Made, Ensures, lent}
 use Rattle.carv_scheduler_spec.specs.Book.{Call, on-objects, create-user-thread, start, block-current, wake, is-blocked-on, kill, tick, plan, read-thread, read-current, read-switches, exit-of}
@@ -88,6 +88,7 @@ pub demand2 : Demand2
 demand2 cpu memory a₀ a out out′ o es h n =
     let (c, i) = opened-is cpu memory a₀ a out out′ o in
     record {
+      opened = subst (Is a) (refines.opening-rust cpu memory c) i;
       answers = as-rust es a (i .sound) h n (rust.new cpu memory) (i .same ∙ refines.opening-rust cpu memory c);
       no-panics = λ w f. opening-no-panics cpu memory c w (calls es) (all-fit es f) (none-added es a (i .sound) h n (opening cpu memory) (i .same));
     }
