@@ -1,4 +1,4 @@
--- Document 01's object registry: its state, and each call as 01's questions in their order and then the step. Question 1 stands in front of each, in specs/Area.antt.
+-- Document 01's object registry: its state, and each call as 01's questions in their order and then the step. Question 1 stands in front of each, in carv_objects/specs/Area.antt.
 -- Assumes nothing.
 use mathlib.Core.Bool.{Bool, true, false, cond, not, _&&_, _||_}
 use mathlib.Core.Option.{Option, none, some}
@@ -114,7 +114,7 @@ has-next r = ltb (r .next) (2 ^ 64 - 1)
 abbrev pub RegistryReply : Type 0
 RegistryReply = Reply Value Registry
 
--- "Root budget: id 1, its own payer, charge 0 at opening, start 0. The next id is 2." Question 2 stands in front, in specs/Area.antt.
+-- "Root budget: id 1, its own payer, charge 0 at opening, start 0. The next id is 2." Question 2 stands in front, in carv_objects/specs/Area.antt.
 abbrev pub opening : (cpu memory : ℕ) → Registry
 opening cpu memory = record {
   next = 2;

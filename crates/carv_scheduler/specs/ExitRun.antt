@@ -1,4 +1,4 @@
--- A lent run of exits: what its walk finds. Assumes nothing.
+-- What the answer of a search in a lent run of exits says, as a value: the cause, or none. Assumes nothing.
 use mathlib.Core.Option.{Option, none, some}
 use Prim.Native.Nat.{ℕ}
 use Rattle.carv_scheduler.specs.declared.exits.Cause.{Cause}

@@ -41,9 +41,9 @@ pub const WAIT: usize = rows::WAIT - rows::ID;
 
 pub const WAIT_NUMBER: usize = rows::WAIT_NUMBER - rows::ID;
 
-pub const PAYER: usize = rows::BUDGET - rows::ID;
+pub const BUDGET: usize = rows::BUDGET - rows::ID;
 
-pub const PAYER_ID: usize = rows::BUDGET_ID - rows::ID;
+pub const BUDGET_ID: usize = rows::BUDGET_ID - rows::ID;
 
 pub const SPACE: usize = rows::SPACES - rows::ID;
 

@@ -48,10 +48,10 @@ fn has_time(a: &mut [u8], i: usize, time: u64) -> bool
     requires { ⌜ i < length (decode (now a) .threads) ⌝ }
     ensures { λ r. ⌜ Tests time (getD (decode (now (a .entry)) .threads) i no-row .it .budget) (now (a .entry)) r (now (a .exit)) ⌝ }
 {
-    if area::thread_word(a, i, area::PAYER) == 0 {
+    if area::thread_word(a, i, area::BUDGET) == 0 {
         return true;
     }
-    let budget = area::thread_word(a, i, area::PAYER_ID);
+    let budget = area::thread_word(a, i, area::BUDGET_ID);
     renew(a, budget, time)
 }
 

@@ -109,10 +109,10 @@ fn account(a: &mut [u8], time: u64)
     let Found::At(i) = area::find_thread(a, id) else {
         return;
     };
-    let payer = area::thread_word(a, i, area::PAYER);
-    let budget = area::thread_word(a, i, area::PAYER_ID);
+    let is = area::thread_word(a, i, area::BUDGET);
+    let budget = area::thread_word(a, i, area::BUDGET_ID);
     area::add_tick(a, i);
-    if payer == 0 {
+    if is == 0 {
         return;
     }
     charge(a, budget, time)

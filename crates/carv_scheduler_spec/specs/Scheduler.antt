@@ -1,5 +1,5 @@
 -- Document 01's threads, ready queue and exit log: the board's state, and each call as 01's questions in their order and then the step. Question 1 stands in
--- front of each, in specs/Area.antt. Assumes nothing.
+-- front of each, in carv_scheduler/specs/Area.antt. Assumes nothing.
 use mathlib.Core.Bool.{Bool, true, false, cond, not, _&&_}
 use mathlib.Core.Option.{Option, none, some}
 use mathlib.Core.List.{List, [], _∷_, _++_}
@@ -201,7 +201,7 @@ BoardReply = Reply Value Board
 
 -- The calls.
 
--- "Opening: thread 0 Running and current; idle (id 2^64 − 1) Ready, in no queue; neither has a budget." Question 2 stands in front, in specs/Area.antt.
+-- "Opening: thread 0 Running and current; idle (id 2^64 − 1) Ready, in no queue; neither has a budget." Question 2 stands in front, in carv_scheduler/specs/Area.antt.
 abbrev pub opening : (cpu memory : ℕ) → Board
 opening cpu memory = record {
   registry = registry.opening cpu memory;

@@ -1,4 +1,4 @@
--- `carv_objects::sound::is_sound` meets its contract: specs/SoundBridge.antt. Assumes nothing.
+-- `carv_objects::sound::is_sound` meets its contract: specs/laws/SoundBridge.antt. Assumes nothing.
 use native.Mathlib.Omega.{arith}
 use Rattle.carv_objects.specs.Area.{table}
 use Rattle.carv_objects.specs.laws.SoundBridge.{asked-size, asked}
