@@ -7,7 +7,7 @@ use Rattle.carv_budget.specs.declared.Outcome.{Outcome}
 use Rattle.carv_budget.specs.declared.CarveOut.{CarveOut}
 use Rattle.carv_budget.specs.Rust.{BudgetError, zero-period, cpu-budget-exceeds-period, cpu-limit-exceeded, memory-limit-exceeded, memory-limit-reached, memory-underflow, reservation-underflow, Result, ok, err, Call}
 
--- The Rust's answers in the port's words. `ZeroPeriod` can't come: the period is a constant.
+-- The Rust's answers in the port's words. `ZeroPeriod` can't come, as the period is a constant, so what `error zero-period` says is free.
 
 abbrev pub error : BudgetError → Answer
 error zero-period = CpuBudgetExceedsPeriod

@@ -4,14 +4,14 @@
 use mathlib.Core.Bool.{Bool, true, false, cond, _&&_}
 use mathlib.Core.Option.{Option, none, some}
 use mathlib.Core.List.{List, [], _∷_, _++_}
-use Prim.Native.Nat.{ℕ, suc, _-_, _^_, _≤_, _<_}
+use Prim.Native.Nat.{ℕ, suc, _-_}
 use lib.Dec.{eqb}
 use Rattle.carv_budget.specs.declared.Account.{Account}
 use Rattle.carv_budget.specs.Rust as budget
 use Rattle.carv_budget.specs.Panics as budget-panics
 use Rattle.carv_budget.specs.Panics.{Check, sum, expect, AllPass}
 use Rattle.carv_objects_spec.specs.declared.Entry.{Entry}
-use Rattle.carv_objects_spec.specs.Registry.{Registry, account-of}
+use Rattle.carv_objects_spec.specs.Registry.{Registry}
 use Rattle.carv_objects_spec.specs.Rust as rust
 use Rattle.carv_objects_spec.specs.Book as book
 use Rattle.carv_objects_spec.specs.Book.{Call}
@@ -76,7 +76,7 @@ create kind payer backing self =
 -- 311 `create_budget`: 319 `self.budget_mut(parent).expect("charged above")`, then 328 `self.next_id += 1`, or the credit where the carve-out is refused
 abbrev pub create-carved : budget.Result Account → (parent : ℕ) → Registry → List Check
 create-carved (budget.ok _) parent self = sum (self .next) 1 ∷ []
-create-carved (budget.err _) parent self = credit parent 128 self
+create-carved (budget.err _) parent self = credit parent rust.BUDGET-BYTES self
 
 abbrev pub carve : (ids parent cpu memory now : ℕ) → Registry → List Check
 carve ids parent cpu memory now self =
@@ -87,8 +87,8 @@ carve ids parent cpu memory now self =
 
 abbrev pub create-budget : (ids parent cpu memory now : ℕ) → Registry → List Check
 create-budget ids parent cpu memory now self =
-    let charged : rust.Call (Unit {0}) = rust.charge parent 128 self in
-    charge parent 128 self ++ if-ok (charged .result) (carve ids parent cpu memory now (charged .self))
+    let charged : rust.Call (Unit {0}) = rust.charge parent rust.BUDGET-BYTES self in
+    charge parent rust.BUDGET-BYTES self ++ if-ok (charged .result) (carve ids parent cpu memory now (charged .self))
 
 -- 349 `remove`: 361 `self.entries.remove(&id).expect("checked above")`, then 374 `release_child` of a budget, then the credit
 abbrev pub remove-taken : Entry → Registry → List Check
@@ -102,7 +102,7 @@ remove-taken e self =
 
 abbrev pub remove : (id : ℕ) → Registry → List Check
 remove id self =
-    cond (eqb id 1) []
+    cond (eqb id rust.root-id) []
     (if-some (rust.get id self) λ e.
     cond (rust.is-budget e && rust.pays-for-anything id self) []
     (expect (is-some (rust.get id self)) ∷ remove-taken e (rust.remove-entry id self)))
@@ -141,9 +141,3 @@ ids-after c ids r = cond (is-some (rust.budget-mut (r .next) (rust-run c r .afte
 abbrev pub NoPanics : List Call → (ids : ℕ) → Registry → Type 0
 NoPanics [] ids r = Unit {0}
 NoPanics (c ∷ cs) ids r = AllPass (checks c ids r) × NoPanics cs (ids-after c ids r) (rust-run c r .after)
-
--- What is asked of the state besides soundness: the root's memory limit is a 64-bit number, and the counter is not ahead of the next id, as both rise with
--- each budget.
-pub record Fits (ids : ℕ) (r : Registry) : Type 0 where
-  pub limit : account-of r 1 .«memory_limit» < 2 ^ 64
-  pub counter : ids ≤ r .next

@@ -1,6 +1,7 @@
 -- What is proved of the definitions. Questions: each question of each call. Demand1: what a refusal leaves. Kept: calls keep soundness, which SoundFacts has as facts.
--- Refines, Demand2: the calls, and lists of them, are the Rust's. Panics: the Rust doesn't. History: the book's figures are the lines; Sentences says it field by field.
--- Added, Limits, Edges: which refusals are added, codes and limits, and document 01's marked cases, written out. The others serve these.
+-- Refines, Demand2: the calls, and lists of them, are the Rust's. Panics: the Rust doesn't; PanicCases: its lists of what can panic, written out. History: the book's
+-- figures are the lines; Sentences says it field by field. Added, Limits, Edges: which refusals are added, codes and limits, and document 01's marked cases, written out.
+-- The others serve these.
 pub mod SoundFacts
 pub mod SoundLaws
 pub mod Steps
@@ -16,3 +17,4 @@ pub mod Questions
 pub mod Edges
 pub mod Asked
 pub mod Panics
+pub mod PanicCases

@@ -57,26 +57,9 @@ State·Blocked = 4
 abbrev pub State·Dead : ℕ
 State·Dead = 5
 
--- `Wait`, a number for each variant, and beside it the number that the variant carries. The methods tell only `Sleep` from the others. (Nor do they look into an
--- `Exit`: 1 `Destroyed`, 2 `Faulted`.)
+-- `Wait`, a number for each variant, and beside it the number that the variant carries. (Into an `Exit` the methods don't look: 1 `Destroyed`, 2 `Faulted`.)
 
--- `Wait::Send(_)`
-abbrev pub Wait·Send : ℕ
-Wait·Send = 1
-
--- `Wait::Recv(_)`
-abbrev pub Wait·Recv : ℕ
-Wait·Recv = 2
-
--- `Wait::Reply(_)`
-abbrev pub Wait·Reply : ℕ
-Wait·Reply = 3
-
--- `Wait::Notification(_)`
-abbrev pub Wait·Notification : ℕ
-Wait·Notification = 4
-
--- `Wait::Sleep(_)`
+-- `Wait::Sleep(_)`, the only variant that the methods name. The others are told apart by their codes alone: 1 `Send`, 2 `Recv`, 3 `Reply`, 4 `Notification`
 abbrev pub Wait·Sleep : ℕ
 Wait·Sleep = 5
 

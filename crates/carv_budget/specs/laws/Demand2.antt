@@ -6,13 +6,14 @@ use mathlib.Core.Option.{Option, none, some}
 use mathlib.Core.List.{List, [], _∷_, map, map-append}
 use Prim.Native.Nat.{ℕ, zero, suc}
 use lib.ListN.{set, List·getD-map}
+use borrow.Author.Tests.{eq-eqb}
 use Rattle.carv_budget.specs.declared.Account.{Account}
 use Rattle.carv_budget.specs.declared.Answer.{Answer}
-use Rattle.carv_budget.specs.declared.Answer.the-variants.{Done, ReservationUnderflow}
+use Rattle.carv_budget.specs.declared.Answer.the-variants.{Done, Renewed, NotDue, CpuBudgetExceedsPeriod, MemoryUnderflow, CpuLimitReached, MemoryLimitReached, CpuLimitExceeded, MemoryLimitExceeded, ReservationUnderflow}
 use Rattle.carv_budget.specs.declared.Outcome.{Outcome}
 use Rattle.carv_budget.specs.declared.CarveOut.{CarveOut}
 use Rattle.carv_budget.specs.Account as account
-use Rattle.carv_budget.specs.Account.{period, sound, outcome, Lent}
+use Rattle.carv_budget.specs.Account.{number, period, sound, outcome, Lent}
 use Rattle.carv_budget.specs.Rust as rust
 use Rattle.carv_budget.specs.Rust.{BudgetError, zero-period, cpu-budget-exceeds-period, cpu-limit-exceeded, memory-limit-exceeded, memory-limit-reached, memory-underflow, reservation-underflow, Result, ok, err}
 use Rattle.carv_budget.specs.Replies.{error, answer, renewal, charged, opening-of, refill-of, charge-of, outcome-of, carve-out-of}
@@ -261,7 +262,75 @@ pub charge-cpu-lent-run : (i ns time : ℕ) (t : Places Account) (entry exit : A
     → answered said (put i exit t) ≡ run (charge-cpu i ns time) t
 charge-cpu-lent-run i ns time t entry exit said e h = rw (e, h .0, h .1)
 
--- Two lists. A child carved and returned to its parent is such a list; its place is then empty, and nothing can be returned from it again.
+-- Which lists these are. Of the operations other than the return of a child nothing is asked; a child may go to the account that it was carved out of, and from an
+-- empty place nothing goes anywhere.
+
+module _ (t : Places Budget) where
+  pub open-account-own : (cpu memory time : ℕ) → returns-own (open-account cpu memory time) t ≡ true
+  open-account-own cpu memory time = refl
+
+  pub refill-own : (i time : ℕ) → returns-own (refill i time) t ≡ true
+  refill-own i time = refl
+
+  pub charge-cpu-own : (i ns time : ℕ) → returns-own (charge-cpu i ns time) t ≡ true
+  charge-cpu-own i ns time = refl
+
+  pub charge-memory-own : (i bytes : ℕ) → returns-own (charge-memory i bytes) t ≡ true
+  charge-memory-own i bytes = refl
+
+  pub release-memory-own : (i bytes : ℕ) → returns-own (release-memory i bytes) t ≡ true
+  release-memory-own i bytes = refl
+
+  pub carve-out-own : (i cpu memory time : ℕ) → returns-own (carve-out i cpu memory time) t ≡ true
+  carve-out-own i cpu memory time = refl
+
+  pub release-child-own : (i child : ℕ) (a : Account) → at t child ≡ some (budget (some i) a) → returns-own (release-child i child) t ≡ true
+  release-child-own i child a h = rw h (eq-eqb i i refl)
+
+  pub release-none-own : (i child : ℕ) → at t child ≡ none → returns-own (release-child i child) t ≡ true
+  release-none-own i child h = rw h
+
+-- A list of all seven operations, which meets every answer that the Rust has, and so the numbers 0, 2, 11, 12 and 15; at the end place 1 is empty.
+
+abbrev pub every : List Operation
+every =
+    open-account 10_000_001 1_000_000 0 ∷ open-account 10_000_000 1_000_000 0
+    ∷ charge-memory 0 4_096 ∷ charge-memory 0 1_000_000 ∷ release-memory 0 4_097 ∷ release-memory 0 96
+    ∷ carve-out 0 4_000_000 8_192 0 ∷ carve-out 0 6_000_001 0 0 ∷ carve-out 0 0 1_000_000 0
+    ∷ charge-cpu 0 6_000_000 0 ∷ charge-cpu 0 1 0 ∷ refill 0 9_999_999 ∷ refill 0 25_000_000
+    ∷ charge-memory 1 1 ∷ release-child 0 1 ∷ release-memory 1 1 ∷ release-child 0 1 ∷ refill 1 25_000_000 ∷ []
+
+abbrev pub every-answer : List (Option Answer)
+every-answer =
+    some CpuBudgetExceedsPeriod ∷ some Done
+    ∷ some Done ∷ some MemoryLimitReached ∷ some MemoryUnderflow ∷ some Done
+    ∷ some Done ∷ some CpuLimitExceeded ∷ some MemoryLimitExceeded
+    ∷ some Done ∷ some CpuLimitReached ∷ some NotDue ∷ some Renewed
+    ∷ some Done ∷ some ReservationUnderflow ∷ some Done ∷ some Done ∷ none ∷ []
+
+abbrev number-of : Option Answer → Option ℕ
+number-of none = none
+number-of (some r) = some (number r)
+
+pub every-own : AllReturnOwn every []
+unfolding rust.refill rust.charge-cpu-refilled rust.charge-memory rust.release-memory rust.carve-out-refilled rust.release-child
+every-own =
+    (refl, (refl, (refl, (refl, (refl, (refl, (refl, (refl, (refl, (refl, (refl, (refl, (refl, (refl, (refl, (refl, (refl, (refl, tt))))))))))))))))))
+
+pub every-answers : map (λ r. r .answer) (replies every []) ≡ every-answer
+unfolding sound account.due account.renew account.spent account.carved account.returnable
+every-answers = refl
+
+pub every-rust-answers : map (λ r. r .answer) (rust-replies every []) ≡ every-answer
+unfolding rust.refill rust.charge-cpu-refilled rust.charge-memory rust.release-memory rust.carve-out-refilled rust.release-child
+every-rust-answers = refl
+
+pub every-number : map number-of every-answer
+    ≡ some 2 ∷ some 0 ∷ some 0 ∷ some 12 ∷ some 11 ∷ some 0 ∷ some 0 ∷ some 12 ∷ some 12 ∷ some 0 ∷ some 12 ∷ some 0 ∷ some 0
+    ∷ some 0 ∷ some 15 ∷ some 0 ∷ some 0 ∷ none ∷ []
+every-number = refl
+
+-- A child carved and returned to its parent is such a list; its place is then empty, and nothing can be returned from it again.
 
 abbrev carve-and-return : List Operation
 carve-and-return = open-account 10_000_000 1_000_000 0 ∷ carve-out 0 4_000_000 8_192 0 ∷ release-child 0 1 ∷ release-child 0 1 ∷ []

@@ -105,7 +105,7 @@ edges =
 
 -- The registries of the cases, written out, so that no call is computed twice.
 
-abbrev budget : (i bytes allowance limit left cpu-reserved used memory-reserved : ℕ) → Row Entry
+abbrev pub budget : (i bytes allowance limit left cpu-reserved used memory-reserved : ℕ) → Row Entry
 budget i bytes allowance limit left cpu-reserved used memory-reserved = record {
   id = i;
   it = record {
@@ -125,16 +125,16 @@ budget i bytes allowance limit left cpu-reserved used memory-reserved = record {
 }
 
 -- a Frame
-abbrev object : (i payer : ℕ) → Row Entry
+abbrev pub object : (i payer : ℕ) → Row Entry
 object i payer = record { id = i; it = record { kind = 3; payer = payer; charge = 4_096; account = blank } }
 
-abbrev registry : ℕ → List (Row Entry) → Registry
+abbrev pub registry : ℕ → List (Row Entry) → Registry
 registry next rows = record { next = next; rows = rows }
 
 abbrev framed : Registry
 framed = registry 3 (budget 1 0 10_000_000 1_000_000 10_000_000 0 4_096 0 ∷ object 2 1 ∷ [])
 
-abbrev carved : Registry
+abbrev pub carved : Registry
 carved = registry 4 (budget 1 0 10_000_000 1_000_000 6_000_000 4_000_000 4_224 8_192 ∷ object 2 1 ∷ budget 3 128 4_000_000 8_192 4_000_000 0 0 0 ∷ [])
 
 -- root, Frame and the second carve-out around budget 3

@@ -29,7 +29,7 @@ use Rattle.carv_objects_spec.specs.Registry.{Registry, RegistryReply, or
 use Rattle.carv_objects_spec.specs.Refused.{added}
 use Rattle.carv_objects_spec.specs.Rust as rust
 use Rattle.carv_objects_spec.specs.Panics as panics
-use Rattle.carv_objects_spec.specs.Panics.{is-some, if-some, if-ok, checks, NoPanics, Fits}
+use Rattle.carv_objects_spec.specs.Panics.{is-some, if-some, if-ok, checks, NoPanics}
 use Rattle.carv_objects_spec.specs.laws.Asked.{asked}
 use Rattle.carv_objects_spec.specs.laws.SoundFacts.{Sound}
 use Rattle.carv_objects_spec.specs.laws.SoundLaws.{account-sound}
@@ -43,6 +43,12 @@ use Rattle.carv_objects_spec.specs.laws.Demand2.{run-rust}
 use Rattle.carv_objects_spec.specs.Book.{Call, create, insert, create-budget, charge-more, uncharge, remove, refill, charge-cpu, pays-for-anything, read-account, charge-of}
 use Rattle.carv_objects_spec.specs.Runs.{run}
 use Rattle.carv_objects_spec.specs.Demand2.{is-added, NoneAdded}
+
+-- What is asked of the state besides soundness: the root's memory limit is a 64-bit number, and the counter is not ahead of the next id, as both rise with
+-- each budget.
+pub record Fits (ids : ℕ) (r : Registry) : Type 0 where
+  pub limit : account-of r 1 .«memory_limit» < 2 ^ 64
+  pub counter : ids ≤ r .next
 
 -- No limit is above the root's: a child's is within its payer's reservations, and payers have lower ids.
 pub limit-below-root : (r : Registry) → Sound r → (n i : ℕ) (e : Entry) → i < n → at (r .rows) i ≡ some e → e .account .«memory_limit» ≤ account-of r 1 .«memory_limit»
