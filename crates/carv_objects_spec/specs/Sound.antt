@@ -1,4 +1,4 @@
--- Document 01's soundness, for objects: a test that computes. specs/SoundFacts.antt has the same as a record of facts. Assumes nothing.
+-- Document 01's soundness, for objects: a test that computes. specs/laws/SoundFacts.antt has the same as a record of facts. Assumes nothing.
 use mathlib.Core.Bool.{Bool, true, cond, not, _&&_, _||_}
 use mathlib.Core.List.{List, [], _∷_}
 use Prim.Native.Nat.{ℕ, suc}
@@ -8,7 +8,7 @@ use Rattle.carv_area.specs.Table.{Row, at, total}
 use Rattle.carv_budget.specs.declared.Account.{Account}
 use Rattle.carv_budget.specs.Account as account
 use Rattle.carv_objects_spec.specs.declared.Entry.{Entry}
-use Rattle.carv_objects_spec.specs.Registry.{Registry, or-missing, listed}
+use Rattle.carv_objects_spec.specs.Registry.{Registry, or-missing, budget-kind, listed, most-objects}
 
 -- every test of a list holds
 abbrev pub all : List Bool → Bool
@@ -55,10 +55,10 @@ abbrev pub entry-tests : List (Row Entry) → ℕ → Entry → List Bool
 entry-tests m i e =
     -- "every code is a listed one"; what is no budget has no account
     listed (e .kind)
-    ∷ (eqb (e .kind) 6 || is-blank (e .account))
+    ∷ (eqb (e .kind) budget-kind || is-blank (e .account))
     -- "entry 1 is a budget paying for itself; other payers are live budgets of lower id"
-    ∷ cond (eqb i 1) (eqb (e .kind) 6 && eqb (e .payer) 1) (ltb (e .payer) i)
-    ∷ eqb (kind-at m (e .payer)) 6
+    ∷ cond (eqb i 1) (eqb (e .kind) budget-kind && eqb (e .payer) 1) (ltb (e .payer) i)
+    ∷ eqb (kind-at m (e .payer)) budget-kind
     -- "used equals the charges it pays; reservations equal its live children's limits"
     ∷ eqb (e .account .«memory_used») (total (charge-by i) m)
     ∷ eqb (e .account .«memory_reserved») (total (memory-by i) m)
@@ -69,9 +69,9 @@ entry-tests m i e =
 -- what is asked of a registry: "at most 512 objects; ids rise and lie below the next id"
 abbrev pub registry-tests : Registry → List Bool
 registry-tests r =
-    leb (length (r .rows)) 512
+    leb (length (r .rows)) most-objects
     ∷ rises 1 (r .next) (r .rows)
-    ∷ eqb (kind-at (r .rows) 1) 6
+    ∷ eqb (kind-at (r .rows) 1) budget-kind
     ∷ every (λ i e. all (entry-tests (r .rows) i e)) (r .rows) ∷ []
 
 abbrev pub sound : Registry → Bool

@@ -1,6 +1,6 @@
 -- What is proved of the definitions. Questions: each question of each call. Demand1: what a refusal leaves. Kept: calls keep soundness, which SoundFacts has as facts.
 -- Refines, Demand2: the calls, and lists of them, are the Rust's. Panics: the Rust doesn't; PanicCases: its lists of what can panic, written out. History: the book's
--- figures are the lines; Sentences says it field by field. Added, Limits, Edges: which refusals are added, codes and limits, and document 01's marked cases, written out.
+-- figures are the lines; Sentences says it field by field. Added, Limits, Edges, Unsound: which refusals are added, codes and limits, document 01's marked cases, and what is not sound, written out.
 -- The others serve these.
 pub mod SoundFacts
 pub mod SoundLaws
@@ -13,6 +13,7 @@ pub mod Sentences
 pub mod Demand2
 pub mod Added
 pub mod Limits
+pub mod Unsound
 pub mod Questions
 pub mod Edges
 pub mod Asked

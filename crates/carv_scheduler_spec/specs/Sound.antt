@@ -1,4 +1,4 @@
--- Document 01's soundness of a board: a test that computes. specs/SoundFacts.antt has the same as a record of facts. Assumes nothing.
+-- Document 01's soundness of a board: a test that computes. specs/laws/SoundFacts.antt has the same as a record of facts. Assumes nothing.
 use mathlib.Core.Bool.{Bool, true, false, cond, not, _&&_, _||_}
 use mathlib.Core.List.{List, [], _∷_}
 use Prim.Native.Nat.{ℕ, _^_}
@@ -7,7 +7,8 @@ use lib.ListN.{length}
 use Rattle.carv_objects_spec.specs.Sound as objects
 use Rattle.carv_objects_spec.specs.Sound.{all, every, rises}
 use Rattle.carv_scheduler_spec.specs.declared.Thread.{Thread}
-use Rattle.carv_scheduler_spec.specs.Scheduler.{Board, idle, inactive, ready, running, blocked, dead, is, wait-listed, cause-listed, thread, has}
+use Rattle.carv_scheduler_spec.specs.declared.Exit.{Exit}
+use Rattle.carv_scheduler_spec.specs.Scheduler.{Board, idle, inactive, ready, running, blocked, dead, is, wait-listed, cause-listed, most-exits, most-threads, thread, has}
 
 abbrev pub member : ℕ → List ℕ → Bool
 member i [] = false
@@ -48,12 +49,16 @@ thread-tests b i t =
     -- "thread 0 and idle, and no others, have no budget"
     ∷ same (eqb (t .budget .is) 0) (unpaid i) ∷ []
 
+-- "every code is a listed one": the cause of a logged exit
+abbrev pub sound-exit : Exit → Bool
+sound-exit e = cause-listed (e .cause)
+
 -- what is asked of a board
 abbrev pub board-tests : Board → List Bool
 board-tests b =
     objects.sound (b .registry)
     -- "at most .. 128 threads; .. thread ids only rise"
-    ∷ leb (length (b .threads)) 128
+    ∷ leb (length (b .threads)) most-threads
     ∷ rises 0 (2 ^ 64) (b .threads)
     ∷ every (λ i t. all (thread-tests b i t)) (b .threads)
     -- "queue ids are distinct", and each is a Ready thread other than idle
@@ -67,8 +72,8 @@ board-tests b =
     ∷ (is ready (thread (b .threads) idle) || is running (thread (b .threads) idle))
     ∷ implies (eqb (b .current) idle) (is running (thread (b .threads) idle))
     -- "at most 32 exits", each with a listed cause
-    ∷ leb (length (b .exits)) 32
-    ∷ each (λ e. cause-listed (e .cause)) (b .exits) ∷ []
+    ∷ leb (length (b .exits)) most-exits
+    ∷ each sound-exit (b .exits) ∷ []
 
 abbrev pub sound : Board → Bool
 sound b = all (board-tests b)

@@ -1,7 +1,7 @@
 -- What is proved of the definitions. Questions: each question of each call. Demand1: what a refusal leaves. Kept: calls keep soundness, which SoundFacts has as facts.
 -- Refines, Demand2: the calls, and lists of them, are the Rust's; LentExits: so are searches of lent exits. Panics: the Rust doesn't; PanicCases: its lists of what can
 -- panic, written out. Following, History, Demand3: the book follows the board, so its figures are the lines and its choice runs; Sentences says it sentence by sentence.
--- Added, Limits, Edges: which refusals are added, codes and limits, and document 01's cases, written out. The others serve these.
+-- Added, Limits, Edges, Unsound: which refusals are added, codes and limits, document 01's cases, and what is not sound, written out. The others serve these.
 pub mod SoundFacts
 pub mod Reading
 pub mod SoundLaws
@@ -17,6 +17,7 @@ pub mod Demand1
 pub mod Demand2
 pub mod Added
 pub mod Limits
+pub mod Unsound
 pub mod Demand3
 pub mod Sentences
 pub mod Edges

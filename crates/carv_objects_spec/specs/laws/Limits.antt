@@ -2,7 +2,7 @@
 -- limit. Assumes nothing.
 use mathlib.Core.Path.{_≡_, refl}
 use mathlib.Core.Bool.{true, false}
-use mathlib.Core.Option.{some}
+use mathlib.Core.Option.{none, some}
 use mathlib.Core.List.{List, [], _∷_}
 use Prim.Native.Nat.{ℕ, zero, suc, _≤_, _<_}
 use native.Mathlib.Omega.{arith}
@@ -12,8 +12,10 @@ use Rattle.carv_area.specs.Table.{Row}
 use Rattle.carv_budget.specs.Account.{fresh, due, renew, returnable}
 use Rattle.carv_objects_spec.specs.declared.Entry.{Entry}
 use Rattle.carv_objects_spec.specs.Refused as refused
+use Rattle.carv_objects_spec.specs.Book as book
+use Rattle.carv_objects_spec.specs.Demand1.{renewal-left}
 use Rattle.carv_objects_spec.specs.Reply.{id, pays, charge}
-use Rattle.carv_objects_spec.specs.Registry.{Registry, RegistryReply, budget-kind, listed, bytes-of, has-place, has-next, plain, opening, create, insert, create-budget, charge-more, uncharge, remove, refill, charge-cpu, pays-for-anything, read-account, charge-of}
+use Rattle.carv_objects_spec.specs.Registry.{Registry, RegistryReply, account-of, budget-kind, listed, bytes-of, has-place, has-next, plain, opening, create, insert, create-budget, charge-more, uncharge, remove, refill, charge-cpu, pays-for-anything, read-account, charge-of}
 use Rattle.carv_objects_spec.specs.Sound.{sound}
 use Rattle.carv_objects_spec.specs.laws.SoundLaws.{sound-told}
 
@@ -109,6 +111,18 @@ pub record Limits : Type 0 where
   -- "`create_budget` charges 128 to the parent, then carves": at the root's limits
   pub carvings : numbers (create-budget 1 10_000_000 995_776 0 framed ∷ create-budget 1 10_000_001 0 0 framed ∷ create-budget 1 0 995_777 0 framed ∷ [])
       ≡ 0 ∷ 12 ∷ 12 ∷ []
+  -- "A CPU charge renews first, then is refused if it exceeds CPU left": more than all, where a renewal is due
+  pub refused-renews : (charge-cpu 1 10_000_001 10_000_000 root .number ≡ 12) × (account-of (charge-cpu 1 10_000_001 10_000_000 root .after) 1 .«period_start» ≡ 10_000_000)
+  -- "a carve-out or CPU charge refused after a renewal leaves that renewal": a carve-out with 127 bytes free, and with 128; the same refused with another number
+  pub carving-left : (renewal-left (book.create-budget 1 0 1 25_000_000) 12 (opening 10_000_000 127) ≡ none)
+      × (renewal-left (book.create-budget 1 0 1 25_000_000) 12 (opening 10_000_000 128) ≡ some (1, 25_000_000))
+      × (renewal-left (book.create-budget 1 0 1 25_000_000) 6 (opening 10_000_000 128) ≡ none)
+  -- a CPU charge refused with 12, and with 7
+  pub charging-left : (renewal-left (book.charge-cpu 3 5 25_000_000) 12 root ≡ some (3, 25_000_000))
+      × (renewal-left (book.charge-cpu 3 5 25_000_000) 7 root ≡ none)
+  -- other calls with 12
+  pub nothing-left : (renewal-left (book.create 3 1 true) 12 root ≡ none) × (renewal-left (book.insert 3 1 5) 12 root ≡ none)
+      × (renewal-left (book.charge-more 1 5) 12 root ≡ none) × (renewal-left (book.refill 1 25_000_000) 12 root ≡ none)
   -- "Sound means: .. at most 512 objects"
   pub sound-512 : (r : Registry) → sound r ≡ true → length (r .rows) ≤ 512
 
@@ -144,5 +158,9 @@ limits-hold = record {
   root-stays = refl;
   charges = refl;
   carvings = refl;
+  refused-renews = (refl, refl);
+  carving-left = (refl, refl, refl);
+  charging-left = (refl, refl);
+  nothing-left = (refl, refl, refl, refl);
   sound-512 = λ r h. sound-told r h .few;
 }

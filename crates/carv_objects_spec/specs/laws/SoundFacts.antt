@@ -1,4 +1,4 @@
--- Document 01's soundness, for objects, as a record of facts. specs/SoundLaws.antt shows that it says what the test of specs/Sound.antt says. Assumes nothing.
+-- Document 01's soundness, for objects, as a record of facts. specs/laws/SoundLaws.antt shows that it says what the test of specs/Sound.antt says. Assumes nothing.
 use mathlib.Core.Path.{_≡_}
 use mathlib.Core.Bool.{true, false}
 use mathlib.Core.Option.{some}

@@ -1,4 +1,4 @@
--- The test of specs/Sound.antt and the facts of specs/SoundFacts.antt say the same. Assumes nothing.
+-- The test of specs/Sound.antt and the facts of specs/laws/SoundFacts.antt say the same. Assumes nothing.
 use mathlib.Core.Path.{_≡_, refl}
 use mathlib.Core.Bool.{Bool, true, false, cond, _&&_, _||_, false≢true}
 use mathlib.Core.List.{List, [], _∷_}

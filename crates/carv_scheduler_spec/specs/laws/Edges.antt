@@ -1,9 +1,9 @@
 -- Document 01's "On the record edges" on the whole board: one list, `Edges`, a field for each sentence in 01's order, which the definitions satisfy together. All
--- that are marked (m) come first, then the two that are not, then cases of plannings that 01's list does not reach. Assumes nothing.
+-- that are marked (m) come first, then the two that are not, then cases of plannings and kills that 01's list does not reach. Assumes nothing.
 use mathlib.Core.Path.{_≡_, refl}
 use mathlib.Core.Bool.{true, false}
 use mathlib.Core.Option.{Option, none, some}
-use mathlib.Core.List.{[], _∷_}
+use mathlib.Core.List.{List, [], _∷_}
 use Prim.Native.Nat.{ℕ, zero, suc, _+_}
 use lib.ListN.{length}
 use Rattle.carv_budget.specs.declared.Account.{Account}
@@ -100,6 +100,21 @@ from-idle = plan 0 (with-started-7 (left-0 .after))
 abbrev pub last-tick : ℕ
 last-tick = 18_446_744_073_709
 
+-- thread 7 is on a carved budget, 2, and thread 8 on the root; they are started in this order
+abbrev pub on-two-budgets : Board
+on-two-budgets = create-user-thread 8 1 true (create-user-thread 7 2 true (by-registry (create-budget 1 4_000_000 0 0) board .after) .after) .after
+
+abbrev pub in-turn : (first second : ℕ) → Board
+in-turn first second = start second 0 0 0 fresh-context (start first 0 0 0 fresh-context on-two-budgets .after) .after
+
+-- the starts of the root and of budget 2 after a planning at tick 10
+abbrev pub starts-at-10 : Board → List ℕ
+starts-at-10 b = root (plan 10 b .after) .«period_start» ∷ account (plan 10 b .after) 2 .«period_start» ∷ []
+
+-- thread 0, current, is killed with cause 1, then with cause 2
+abbrev pub killed-twice : BoardReply
+killed-twice = kill 0 2 (kill 0 1 board .after)
+
 -- so many threads, from 101 on, each created and killed
 abbrev pub kills : ℕ → Board
 kills zero = board
@@ -177,6 +192,13 @@ pub record Edges : Type 0 where
       × (from-idle .after .current ≡ 7)
       × (from-idle .after .queue ≡ [])
       × (thread (from-idle .after .threads) 18_446_744_073_709_551_615 .state ≡ 3)
+  -- "Mistakes close at hand: .. renewing every budget at a planning": only the chosen thread's is renewed, the other thread not being tested
+  pub tested-renewed : (plan 10 (in-turn 7 8) .after .current ≡ 7) × (starts-at-10 (in-turn 7 8) ≡ 0 ∷ 10_000_000 ∷ [])
+      × (plan 10 (in-turn 8 7) .after .current ≡ 8) × (starts-at-10 (in-turn 8 7) ≡ 10_000_000 ∷ 0 ∷ [])
+  -- "a second kill logs it again"; "`exit_of` gives the oldest match"
+  pub second-kill : Accepted (some (ended none)) killed-twice
+      × (killed-twice .after .exits ≡ record { thread = 0; cause = 1 } ∷ record { thread = 0; cause = 2 } ∷ [])
+      × Accepted (some (exit-cause (some 1))) (exit-of 0 (killed-twice .after))
 
 pub edges-hold : Edges
 unfolding due renew returnable
@@ -198,4 +220,6 @@ edges-hold = record {
   kills-33 = ((refl, refl), (refl, refl), (refl, refl), refl);
   own-root = ((refl, refl), refl, refl, (refl, refl));
   away-from-idle = ((refl, refl), refl, refl, refl);
+  tested-renewed = (refl, refl, refl, refl);
+  second-kill = ((refl, refl), refl, (refl, refl));
 }

@@ -9,11 +9,14 @@ use native.Mathlib.Omega.{arith}
 use lib.ListN.{length}
 use borrow.Author.Tests.{le-leb, lt-leb}
 use Rattle.carv_budget.specs.Account.{due, renew}
+use Rattle.carv_objects_spec.specs.Book as objects
 use Rattle.carv_objects_spec.specs.Registry.{account-of}
 use Rattle.carv_scheduler_spec.specs.declared.Context.{Context}
 use Rattle.carv_scheduler_spec.specs.declared.Results.{Results}
 use Rattle.carv_scheduler_spec.specs.declared.Thread.{Thread}
-use Rattle.carv_scheduler_spec.specs.Scheduler.{Board, no-switch, ended, is-blocked, record-of, idle, last-tick, wait-listed, cause-listed, fresh-context, results, thread, most-exits, most-threads, opening, create-user-thread, start, block-current, wake, is-blocked-on, kill, tick, plan, read-thread}
+use Rattle.carv_scheduler_spec.specs.Book as book
+use Rattle.carv_scheduler_spec.specs.Demand1.{renewal-left}
+use Rattle.carv_scheduler_spec.specs.Scheduler.{Board, no-switch, ended, is-blocked, record-of, idle, last-tick, ready, wait-listed, cause-listed, no-budget-id, fresh-context, results, fresh, thread, most-exits, most-threads, opening, create-user-thread, start, block-current, wake, is-blocked-on, kill, tick, plan, read-thread}
 use Rattle.carv_scheduler_spec.specs.Sound.{sound}
 use Rattle.carv_scheduler_spec.specs.laws.SoundLaws.{sound-told}
 
@@ -70,6 +73,24 @@ all-asleep =
 -- idle runs, and no other thread is there
 abbrev pub idling : Board
 idling = plan 0 (kill 0 1 board .after) .after
+
+-- thread 7 runs, with these run ticks, on a board with this switch count
+abbrev pub counted : (ticks switches : ℕ) → Board
+counted ticks switches = record {
+  registry = board .registry;
+  threads = record { id = 7; it = at-work 3 0 0 fresh-context (told 0 0 0) ticks } ∷ record { id = idle; it = fresh ready no-budget-id } ∷ [];
+  queue = [];
+  current = 7;
+  switches = switches;
+  exits = [];
+}
+
+-- thread 7's run ticks after a tick, and the switch count after a planning that leaves thread 7 for idle, from these
+abbrev pub ticks-after : ℕ → ℕ
+ticks-after n = thread (tick 1 (counted n 0) .after .threads) 7 .ticks
+
+abbrev pub switches-after : ℕ → ℕ
+switches-after n = plan 0 (kill 7 1 (counted 0 n) .after) .after .switches
 
 -- n threads more than thread 0 and idle
 abbrev pub crowd : ℕ → Board
@@ -157,6 +178,9 @@ pub record Limits : Type 0 where
       × (account-of (tick 10 running .after .registry) 1 .«period_start» ≡ 10_000_000)
   pub planned-10 : (account-of (plan 9 (tick 1 running .after) .after .registry) 1 .«cpu_left» ≡ 9_000_000)
       × (account-of (plan 10 (tick 1 running .after) .after .registry) 1 .«cpu_left» ≡ 10_000_000)
+  -- "Run ticks and the switch count are taken modulo 2^64": from the last number, and from the one before 2^63
+  pub ticks-modulo : (ticks-after 18_446_744_073_709_551_615 ≡ 0) × (ticks-after 9_223_372_036_854_775_807 ≡ 9_223_372_036_854_775_808)
+  pub switches-modulo : (switches-after 18_446_744_073_709_551_615 ≡ 0) × (switches-after 9_223_372_036_854_775_807 ≡ 9_223_372_036_854_775_808)
   -- "3. Is the tick at most 18,446,744,073,709?"
   pub last-tick-is : last-tick ≡ 18_446_744_073_709
   -- "wakes sleepers due at or before n, by rising id, with results 0, 0, 0"
@@ -170,6 +194,16 @@ pub record Limits : Type 0 where
   pub wait-ended : (kill 7 1 asleep .value ≡ some (ended (some (record { kind = 5; number = 3 })))) × (kill 7 1 started .value ≡ some (ended none))
   -- "The log holds 32"
   pub most-exits-is : most-exits ≡ 32
+  -- "a carve-out or CPU charge refused after a renewal leaves that renewal": a carve-out with 127 bytes free, and with 128; the same refused with another number
+  pub carving-left : (renewal-left (book.on-objects (objects.create-budget 1 0 1 25_000_000)) 12 (opening 10_000_000 127) ≡ none)
+      × (renewal-left (book.on-objects (objects.create-budget 1 0 1 25_000_000)) 12 (opening 10_000_000 128) ≡ some (1, 25_000_000))
+      × (renewal-left (book.on-objects (objects.create-budget 1 0 1 25_000_000)) 6 (opening 10_000_000 128) ≡ none)
+  -- a CPU charge refused with 12, and with 7
+  pub charging-left : (renewal-left (book.on-objects (objects.charge-cpu 3 5 25_000_000)) 12 board ≡ some (3, 25_000_000))
+      × (renewal-left (book.on-objects (objects.charge-cpu 3 5 25_000_000)) 7 board ≡ none)
+  -- other calls with 12, and with 7
+  pub nothing-left : (renewal-left (book.on-objects (objects.create 3 1 true)) 12 board ≡ none) × (renewal-left (book.on-objects (objects.charge-more 1 5)) 12 board ≡ none)
+      × (renewal-left (book.on-objects (objects.refill 1 25_000_000)) 12 board ≡ none) × (renewal-left (book.tick 25) 12 board ≡ none) × (renewal-left (book.plan 25) 7 board ≡ none)
   -- "Sound means: .. at most .. 128 threads; .. at most 32 exits"
   pub sound-128 : (b : Board) → sound b ≡ true → length (b .threads) ≤ 128
   pub sound-32 : (b : Board) → sound b ≡ true → length (b .exits) ≤ 32
@@ -207,6 +241,8 @@ limits-hold = record {
   tick-9 = (refl, refl);
   tick-10 = (refl, refl);
   planned-10 = (refl, refl);
+  ticks-modulo = (refl, refl);
+  switches-modulo = (refl, refl);
   last-tick-is = refl;
   sleeps = refl;
   not-yet = (refl, refl);
@@ -216,6 +252,9 @@ limits-hold = record {
   only-sleepers = refl;
   wait-ended = (refl, refl);
   most-exits-is = refl;
+  carving-left = (refl, refl, refl);
+  charging-left = (refl, refl);
+  nothing-left = (refl, refl, refl, refl, refl);
   sound-128 = λ b h. sound-told b h .few;
   sound-32 = λ b h. sound-told b h .few-exits;
 }

@@ -1,4 +1,4 @@
--- Document 01's soundness of a board as a record of facts. specs/SoundLaws.antt shows that it says what the test of specs/Sound.antt says. Assumes nothing.
+-- Document 01's soundness of a board as a record of facts. specs/laws/SoundLaws.antt shows that it says what the test of specs/Sound.antt says. Assumes nothing.
 use mathlib.Core.Path.{_≡_}
 use mathlib.Core.Bool.{true, false, not, _&&_, _||_}
 use mathlib.Core.Option.{some}
@@ -8,8 +8,8 @@ use lib.ListN.{length}
 use Rattle.carv_area.specs.Table.{at, Rising}
 use Rattle.carv_objects_spec.specs.laws.SoundFacts as objects
 use Rattle.carv_scheduler_spec.specs.declared.Thread.{Thread}
-use Rattle.carv_scheduler_spec.specs.Scheduler.{Board, idle, inactive, ready, running, blocked, dead, is, wait-listed, cause-listed, no-wait, no-budget-id, no-spaces, thread, has}
-use Rattle.carv_scheduler_spec.specs.Sound.{member, distinct, each, unpaid}
+use Rattle.carv_scheduler_spec.specs.Scheduler.{Board, idle, inactive, ready, running, blocked, dead, is, wait-listed, no-wait, no-budget-id, no-spaces, thread, has}
+use Rattle.carv_scheduler_spec.specs.Sound.{member, distinct, each, unpaid, sound-exit}
 
 -- the codes of a thread record
 pub record SoundThread (t : Thread) : Type 0 where
@@ -38,4 +38,4 @@ pub record Sound (b : Board) : Type 0 where
   pub idle-runs : b .current ≡ idle → is running (thread (b .threads) idle) ≡ true
   pub budgets : (i : ℕ) → has (b .threads) i ≡ true → eqb (thread (b .threads) i .budget .is) 0 ≡ unpaid i
   pub few-exits : length (b .exits) ≤ 32
-  pub causes : each (λ e. cause-listed (e .cause)) (b .exits) ≡ true
+  pub causes : each sound-exit (b .exits) ≡ true

@@ -1,4 +1,4 @@
--- The test of specs/Sound.antt and the facts of specs/SoundFacts.antt say the same. Assumes nothing.
+-- The test of specs/Sound.antt and the facts of specs/laws/SoundFacts.antt say the same. Assumes nothing.
 use mathlib.Core.Path.{_≡_, refl, sym, _∙_, ap, subst}
 use mathlib.Core.Bool.{Bool, true, false, cond, not, _&&_, _||_, false≢true}
 use mathlib.Core.Option.{some}

@@ -22,8 +22,8 @@ use Rattle.carv_scheduler_spec.specs.declared.Context.{Context}
 use Rattle.carv_scheduler_spec.specs.declared.Results.{Results}
 use Rattle.carv_scheduler_spec.specs.declared.Thread.{Thread}
 use Rattle.carv_scheduler_spec.specs.declared.Exit.{Exit}
-use Rattle.carv_scheduler_spec.specs.Scheduler.{Board, idle, tick-ns, inactive, ready, running, blocked, dead, is, wait-listed, cause-listed, no-wait, no-budget-id, in-spaces, fresh, or-fresh, thread, has, become, started, woken, ticked, with-registry, with-threads, join, without, logged, renew-for, charge-tick}
-use Rattle.carv_scheduler_spec.specs.Sound.{member, distinct, each}
+use Rattle.carv_scheduler_spec.specs.Scheduler.{Board, idle, tick-ns, inactive, ready, running, blocked, dead, is, wait-listed, no-wait, no-budget-id, in-spaces, fresh, or-fresh, thread, has, become, started, woken, ticked, with-registry, with-threads, join, without, logged, renew-for, charge-tick}
+use Rattle.carv_scheduler_spec.specs.Sound.{member, distinct, each, sound-exit}
 use Rattle.carv_scheduler_spec.specs.laws.SoundFacts.{SoundThread, Sound}
 use Rattle.carv_scheduler_spec.specs.laws.Reading.{or-false, and-false, or-true, absent, thread-alter, has-alter, thread-erase, has-erase, thread-put, member-join, member-without, distinct-join, distinct-without}
 use Rattle.carv_scheduler_spec.specs.laws.SoundLaws.{by-id}
@@ -132,7 +132,7 @@ pub record Changes (b : Board) (i : ℕ) (t : Thread) (q : List ℕ) : Type 0 wh
   pub idle-runs : i ≡ idle → b .current ≡ idle → is running t ≡ true
 
 pub change-kept : (b : Board) (i : ℕ) (f : Thread → Thread) (q : List ℕ) (exits : List Exit) → Sound b → Changes b i (f (thread (b .threads) i)) q
-    → length exits ≤ 32 → each (λ e. cause-listed (e .cause)) exits ≡ true
+    → length exits ≤ 32 → each sound-exit exits ≡ true
     → Sound (record {
       registry = b .registry;
       threads = alter i f (b .threads);
@@ -196,7 +196,7 @@ join-kept b i f o h busy was-not codes s budget = change-kept b i f (join (b .qu
 -- the current thread, which is not idle, stops: Blocked or Dead
 pub stop-kept : (b : Board) (s : ℕ) (w : Wait) (exits : List Exit) → Sound b → eqb (b .current) idle ≡ false
     → SoundThread (become s w (thread (b .threads) (b .current))) → eqb s ready ≡ false → eqb s inactive ≡ false
-    → length exits ≤ 32 → each (λ e. cause-listed (e .cause)) exits ≡ true
+    → length exits ≤ 32 → each sound-exit exits ≡ true
     → Sound (record {
       registry = b .registry;
       threads = alter (b .current) (become s w) (b .threads);
@@ -240,15 +240,15 @@ module _ {A : Type 0} (p : A → Bool) where
   each-drop [] h = refl
   each-drop (x ∷ l) h = second (p x) (each p l) h
 
-pub logged-listed : (e : Exit) (l : List Exit) → cause-listed (e .cause) ≡ true → each (λ e. cause-listed (e .cause)) l ≡ true
-    → each (λ e. cause-listed (e .cause)) (logged e l) ≡ true
+pub logged-listed : (e : Exit) (l : List Exit) → sound-exit e ≡ true → each sound-exit l ≡ true
+    → each sound-exit (logged e l) ≡ true
 logged-listed e l c h = test (eqb (length l) 32)
-    (λ a. rw a (each-append (λ e. cause-listed (e .cause)) (drop 1 l) e (each-drop (λ e. cause-listed (e .cause)) l h) c))
-    (λ a. rw a (each-append (λ e. cause-listed (e .cause)) l e h c))
+    (λ a. rw a (each-append sound-exit (drop 1 l) e (each-drop sound-exit l h) c))
+    (λ a. rw a (each-append sound-exit l e h c))
 
 -- thread i, neither idle nor current, goes
 pub gone-kept : (b : Board) (i : ℕ) (exits : List Exit) → Sound b → eqb i idle ≡ false → eqb i (b .current) ≡ false
-    → length exits ≤ 32 → each (λ e. cause-listed (e .cause)) exits ≡ true
+    → length exits ≤ 32 → each sound-exit exits ≡ true
     → Sound (record {
       registry = b .registry;
       threads = erase i (b .threads);
