@@ -57,5 +57,9 @@ fn replay_all() -> Tally {
 }
 
 fn main() {
-    replay_records::report(replay_all());
+    let tally = replay_all();
+    io::print_decimal(libc::STDOUT_FILENO, tally.calls);
+    io::write_all(libc::STDOUT_FILENO, b" calls, ");
+    io::print_decimal(libc::STDOUT_FILENO, tally.differences);
+    io::write_all(libc::STDOUT_FILENO, b" differences\n");
 }

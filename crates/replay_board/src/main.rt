@@ -79,5 +79,9 @@ fn replay_all(area: &mut [u8]) -> Tally {
 
 fn main() {
     let mut area = [0u8; AREA_BYTES];
-    replay_records::report(replay_all(&mut area));
+    let tally = replay_all(&mut area);
+    io::print_decimal(libc::STDOUT_FILENO, tally.calls);
+    io::write_all(libc::STDOUT_FILENO, b" calls, ");
+    io::print_decimal(libc::STDOUT_FILENO, tally.differences);
+    io::write_all(libc::STDOUT_FILENO, b" differences\n");
 }

@@ -1,6 +1,7 @@
-// What the programs that replay recorded calls share: reading standard input in blocks of whole records, counting what the blocks
-// give, and the line that tells it. A record is a number of 64-bit words, which carv_area::get reads. The loops over blocks and over
-// records stay in the programs, as no function can be handed another, and with them what is theirs: a record's layout and its calls.
+// What the programs that replay recorded calls share: reading standard input in blocks of whole records, and counting what the blocks
+// give. A record is a number of 64-bit words, which carv_area::get reads. The loops over blocks and over records stay in the programs, as
+// no function can be handed another, and with them what is theirs: a record's layout, its calls, and the line that tells the tally, of
+// which no contract could say anything.
 ghost use mathlib.Core.Path.{_≡_};
 ghost use Prim.Native.Nat.{_/_, _≤_, _<_};
 ghost use lib.ListN.{length};
@@ -80,12 +81,4 @@ pub fn add(tally: Tally, n: usize, size: usize, differences: u64) -> Tally
         differences: different,
         blocks: tally.blocks - 1,
     }
-}
-
-// Writes how many calls there were and how many of them differ.
-pub fn report(tally: Tally) {
-    io::print_decimal(libc::STDOUT_FILENO, tally.calls);
-    io::write_all(libc::STDOUT_FILENO, b" calls, ");
-    io::print_decimal(libc::STDOUT_FILENO, tally.differences);
-    io::write_all(libc::STDOUT_FILENO, b" differences\n");
 }
