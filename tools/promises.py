@@ -28,7 +28,7 @@ import re
 import sys
 
 ROOT = pathlib.Path(sys.argv[1] if len(sys.argv) > 1 else pathlib.Path(__file__).resolve().parent.parent)
-CRATE = {None: 'carv_objects', 'objects': 'carv_objects', 'objects_spec': 'carv_objects_spec', 'scheduler': 'carv_scheduler', 'carv': 'carv', 'scheduler_spec': 'carv_scheduler_spec', 'area': 'carv_area', 'carv_area': 'carv_area'}
+CRATE = {None: 'carv_objects', 'objects': 'carv_objects', 'objects_spec': 'carv_objects_spec', 'scheduler': 'carv_scheduler', 'carv': 'carv', 'scheduler_spec': 'carv_scheduler_spec', 'area': 'carv_area', 'carv_area': 'carv_area', 'replay_records': 'replay_records'}
 SPECS = {None: 'carv_objects*', 'scheduler': 'carv_scheduler*', 'carv': 'carv'}
 TICKED = re.compile(r'`([^`]+)`')
 
@@ -68,7 +68,7 @@ FORMS = [(re.compile(form), look) for form, look in [
     (r'[A-Z]\w*::(\w+)', lambda n: has(r'\b(?:fn|const) %s\b|^    %s\b' % (n, n), text('crates/*/src/*.rt'))),
     (r'(objects|scheduler|carv_area|carv)::(\w+)', entry),
     (r'(?:(scheduler)/)?([a-z]\w*)::(\w+)', lambda c, m, n: function(n, 'crates/%s/src/%s.rt' % (CRATE[c], m))),
-    (r'(objects|objects_spec|scheduler_spec|scheduler|carv|area)/([a-z]\w*)', lambda c, n: exists('crates/%s/must-fail/%s.edit' % (CRATE[c], n))),
+    (r'(objects|objects_spec|scheduler_spec|scheduler|carv|area|replay_records)/([a-z]\w*)', lambda c, n: exists('crates/%s/must-fail/%s.edit' % (CRATE[c], n))),
     (r'((?:struct|enum) \w+)', lambda n: has(n + r'\b', text('crates/*/src/*.rt'))),
     (r'(carv_(?!area|budget|objects|scheduler)\w+)', lambda n: function(n, 'crates/carv/src/lib.rt')),
     (r'(\w+\.rt)', lambda n: exists('crates/*/src/' + n)),

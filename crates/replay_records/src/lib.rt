@@ -4,7 +4,7 @@
 // which no contract could say anything.
 ghost use mathlib.Core.Path.{_≡_};
 ghost use Prim.Native.Nat.{_/_, _≤_, _<_};
-ghost use lib.ListN.{length};
+ghost use lib.ListN.{length, drop};
 ghost use Rattle.replay_records.specs.Tally.{block-bytes, cut, started, added, Room};
 
 // The bytes of the buffer that a block is read into, `io::large_buffer`.
@@ -43,7 +43,8 @@ fn block_bytes(size: usize) -> usize
 pub fn read_block(buf: &mut [u8], size: usize) -> usize
     requires { ⌜ 0 < size ⌝ }
     requires { ⌜ length (now buf) ≡ 65_536 ⌝ }
-    ensures { λ r. ⌜ r ≤ 65_536 ⌝ }
+    ensures { λ r. ⌜ (r ≤ 65_536) × (r ≤ block-bytes size) ⌝ }
+    ensures { λ _. ⌜ drop (block-bytes size) (now (buf .exit)) ≡ drop (block-bytes size) (now (buf .entry)) ⌝ }
 {
     let most = block_bytes(size);
     io::read_full(libc::STDIN_FILENO, &mut buf[..most])

@@ -16,4 +16,4 @@ next-block-spec =
     (λ c κs. search needs)  -- tell-cut-requires
     (λ c κs. search needs)  -- add-requires
     (λ c. search needs)  -- same-length
-    (λ c. counted _ _ _ _ _ _ _ (c .before .before .before .before .before .before .before .before .before .before .before .before .pre .0) (c .before .before .before .before .before .before .before .before .before .before .before .before .pre .1) (c .before .before .before .before .before .before .before .before .read-block .ensures) (search needs) (c .before .before .before .before .differences .ensures .1) (c .before .before .before .before .differences .ensures .0) (c .add .ensures)))  -- returns
+    (λ c. counted _ _ _ _ _ _ _ (c .before .before .before .before .before .before .before .before .before .before .before .before .pre .0) (c .before .before .before .before .before .before .before .before .before .before .before .before .pre .1) (c .before .before .before .before .before .before .before .before .read-block .ensures .0 .0) (search needs) (c .before .before .before .before .differences .ensures .1) (c .before .before .before .before .differences .ensures .0) (c .add .ensures)))  -- returns

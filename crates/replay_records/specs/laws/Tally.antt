@@ -1,12 +1,13 @@
 -- The laws of `Tally`: one that leaves room for the blocks to come still does with one block more, and then has fewer to come. Assumes nothing.
 use mathlib.Core.Path.{_≡_}
 use mathlib.Core.Bool.{Bool, true, false, cond}
-use mathlib.Core.List.{List}
+use mathlib.Core.List.{List, _++_}
 use Prim.Native.Nat.{ℕ, _+_, _*_, _-_, _/_, _%_, _≤_, _<_}
-use native.Mathlib.Nat.{div-le-self}
+use native.Mathlib.Nat.{div-le-self, div-mul-le-self}
 use native.Mathlib.Omega.{arith}
 use lib.Dec.{eqb}
-use lib.ListN.{length}
+use lib.ListN.{length, drop}
+use lib.Seq.{drop-at}
 use borrow.Author.Tests.{eq-eqb, ne-eqb}
 use Rattle.replay_records.specs.declared.Tally.{Tally}
 use Rattle.replay_records.specs.Tally.{block-bytes, cut, added, Room, Counted}
@@ -53,3 +54,12 @@ counted size differ l t t′ n d r b k w m h e = (
   record { bytes = l; n = n; d = d; within = w; different = h; counted = e },
   rw e (added-room t n size d r b k m, added-fewer t n size d b),
 )
+
+-- a part of the first m bytes was written: the bytes behind it stay
+pub behind-kept : (k m : ℕ) (xs l : List ℕ) → m ≡ k → length xs ≡ m → drop k (xs ++ drop m l) ≡ drop k l
+behind-kept k m xs l e h = rw (← e) (drop-at xs (drop m l) m h)
+
+-- a block fits the buffer
+pub block-fits : (n size : ℕ) → n ≤ block-bytes size → n ≤ 65_536
+unfolding block-bytes
+block-fits n size h = let t : 65_536 / size * size ≤ 65_536 = div-mul-le-self 65_536 size in omega (arith, h, t)
