@@ -251,10 +251,11 @@ uint64_t carv_uncharge(uint8_t *area, size_t area_bytes, uint64_t id, uint64_t b
                        size_t out_words);
 
 /*
- * Removes an object: its payer is credited the charge, and reserves a budget's limits no more. The
- * payer's CPU left does not move. Refused with 7, 9, 10.
+ * Removes an object: its payer is credited the charge. The payer of a removed budget is first
+ * renewed if that is due at this time, and then reserves the budget's limits no more; beyond that
+ * its CPU left does not move. The removal of another kind renews nobody. Refused with 7, 9, 10.
  */
-uint64_t carv_remove(uint8_t *area, size_t area_bytes, uint64_t id, uint64_t *out,
+uint64_t carv_remove(uint8_t *area, size_t area_bytes, uint64_t id, uint64_t time, uint64_t *out,
                      size_t out_words);
 
 /* Renews a budget if that is due at this time. Word 0: 1 if it was, 0 if not. Refused with 7. */

@@ -31,7 +31,7 @@ REGISTRY, CALLS = 'registry', [
     ('create_budget', 'parent: u64, cpu: u64, memory: u64, time: u64', 'create-budget', 'registry', False, 'A budget carved out of its parent.'),
     ('charge_more', 'id: u64, bytes: u64', 'charge-more', 'registry', False, 'More bytes charged for an object.'),
     ('uncharge', 'id: u64, bytes: u64', 'uncharge', 'registry', False, 'Bytes of an object credited.'),
-    ('remove', 'id: u64', 'remove', 'registry', False, 'An object taken out.'),
+    ('remove', 'id: u64, time: u64', 'remove', 'registry', False, "An object taken out; a removed budget's payer is renewed at this time, before the child is returned."),
     ('refill', 'id: u64, time: u64', 'refill', 'registry', False, 'The renewal of a budget.'),
     ('charge_cpu', 'id: u64, ns: u64, time: u64', 'charge-cpu', 'registry', False, 'CPU time charged to a budget.'),
     ('pays_for_anything', 'id: u64', 'pays-for-anything', 'registry', True, 'Does another object have this payer?'),

@@ -4,7 +4,7 @@
     tools/promises.py [ROOT]
 
 ROOT is the repository, by default the folder above tools/. Exit status: 0 if nothing is missing, else 1. Read are the backticked
-names from the section "Demands" on; the column "01 says" is left out, as it has the Rust's names. Looked up are
+names from the section "Demands" on; the columns "01 says" and "02 says" are left out, as they have the Rust's names. Looked up are
 
     File.name, scheduler/File.name     in specs/ or specs/laws/, File.antt of carv_objects_spec or carv_objects, carv_scheduler_spec or carv_scheduler; so are
                                        names in brackets
@@ -124,7 +124,7 @@ def cells():
             row = [cell.strip() for cell in line[1:-1].split(' | ')]
             if len(row) != len(head):
                 sys.exit('%s: %d cells instead of %d' % (row[0], len(row), len(head)))
-            yield from ((row[0], column, cell, crate) for column, cell in zip(head, row) if column not in ('#', '01 says'))
+            yield from ((row[0], column, cell, crate) for column, cell in zip(head, row) if column not in ('#', '01 says', '02 says'))
 
 
 def main():

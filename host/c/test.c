@@ -30,7 +30,7 @@ static void all_are_refused(size_t bytes, size_t words) {
     REFUSED(n, carv_create_budget(area, bytes, 1, 0, 0, 0, out, words));
     REFUSED(n, carv_charge_more(area, bytes, 1, 0, out, words));
     REFUSED(n, carv_uncharge(area, bytes, 1, 0, out, words));
-    REFUSED(n, carv_remove(area, bytes, 1, out, words));
+    REFUSED(n, carv_remove(area, bytes, 1, CARV_PERIOD_NS, out, words));
     REFUSED(n, carv_refill(area, bytes, 1, CARV_PERIOD_NS, out, words));
     REFUSED(n, carv_charge_cpu(area, bytes, 1, 1, 0, out, words));
     REFUSED(n, carv_pays_for_anything(area, bytes, 1, out, words));
@@ -281,12 +281,12 @@ static void budgets(void) {
     ANSWER(carv_create(AREA, CARV_KIND_FRAME, 3, true, OUT), 6);
     READS(carv_account(AREA, 3, OUT), 4000000, 8192, 0, 4000000, 0, 8192, 0);
     REFUSED(CARV_REFUSED_LIMIT, carv_create(AREA, CARV_KIND_ENDPOINT, 3, true, OUT));
-    REFUSED(CARV_REFUSED_PAYS, carv_remove(AREA, 3, OUT));
-    DONE(carv_remove(AREA, 5, OUT));
-    DONE(carv_remove(AREA, 6, OUT));
+    REFUSED(CARV_REFUSED_PAYS, carv_remove(AREA, 3, 0, OUT));
+    DONE(carv_remove(AREA, 5, 0, OUT));
+    DONE(carv_remove(AREA, 6, 0, OUT));
     READS(carv_pays_for_anything(AREA, 3, OUT), 0);
     ROOT_IS(0, 0, 10000000, 4352, 8192);
-    DONE(carv_remove(AREA, 3, OUT));
+    DONE(carv_remove(AREA, 3, 0, OUT));
     ROOT_IS(0, 0, 6000000, 4224, 0);
     CHECK(word(OBJECT_COUNT) == 3 && word(OBJECTS + 2 * OBJECT_WIDTH) == 4);
     CHECK(word(OBJECTS + 3 * OBJECT_WIDTH) == 0 && word(NEXT_ID) == 7);
@@ -302,11 +302,11 @@ static void missing(void) {
     REFUSED(CARV_REFUSED_MISSING, carv_charge_cpu(AREA, 3, 0, 0, OUT));
     REFUSED(CARV_REFUSED_MISSING, carv_charge_more(AREA, 3, 0, OUT));
     REFUSED(CARV_REFUSED_MISSING, carv_uncharge(AREA, 3, 0, OUT));
-    REFUSED(CARV_REFUSED_MISSING, carv_remove(AREA, 3, OUT));
+    REFUSED(CARV_REFUSED_MISSING, carv_remove(AREA, 3, 0, OUT));
     REFUSED(CARV_REFUSED_MISSING, carv_create(AREA, CARV_KIND_FRAME, 2, true, OUT));
     REFUSED(CARV_REFUSED_MISSING, carv_insert(AREA, CARV_KIND_IRQ, 3, 0, OUT));
     REFUSED(CARV_REFUSED_MISSING, carv_create_budget(AREA, 2, 0, 0, 0, OUT));
-    REFUSED(CARV_REFUSED_ROOT, carv_remove(AREA, CARV_ROOT, OUT));
+    REFUSED(CARV_REFUSED_ROOT, carv_remove(AREA, CARV_ROOT, 0, OUT));
 }
 
 /* "Start 0", "Uncharging", and CPU charges; goes on from there. */
@@ -371,6 +371,35 @@ static void carvings(void) {
     READS(carv_account(AREA, 2, OUT), 0, 0, 20000000, 0, 0, 0, 0);
 }
 
+/*
+ * Removals while the payer, the root, is due. Refused, or of another kind, they leave it as it is.
+ * Budget 2 uses its 4 ms of the second period and goes: the root has the other 6 ms of it, less the
+ * 1 ms of budget 3. Then one before the root is due again, and one at which the clock fell.
+ */
+static void removals(void) {
+    open_board(1000000);
+    ANSWER(carv_create_budget(AREA, 1, 4000000, 4096, 0, OUT), 2);
+    ANSWER(carv_create_budget(AREA, 1, 1000000, 4096, 0, OUT), 3);
+    ANSWER(carv_create_budget(AREA, 1, 0, 0, 0, OUT), 4);
+    ANSWER(carv_create(AREA, CARV_KIND_FRAME, 3, true, OUT), 5);
+    REFUSED(CARV_REFUSED_MISSING, carv_remove(AREA, 6, 25000000, OUT));
+    REFUSED(CARV_REFUSED_ROOT, carv_remove(AREA, CARV_ROOT, 25000000, OUT));
+    REFUSED(CARV_REFUSED_PAYS, carv_remove(AREA, 3, 25000000, OUT));
+    DONE(carv_remove(AREA, 5, 25000000, OUT));
+    READS(carv_account(AREA, 3, OUT), 1000000, 4096, 0, 1000000, 0, 0, 0);
+    ROOT_IS(0, 5000000, 5000000, 384, 8192);
+    DONE(carv_charge_cpu(AREA, 2, 4000000, 10000000, OUT));
+    DONE(carv_remove(AREA, 2, 14000000, OUT));
+    ROOT_IS(10000000, 5000000, 1000000, 256, 4096);
+    DONE(carv_charge_cpu(AREA, 1, 5000000, 14000000, OUT));
+    DONE(carv_remove(AREA, 3, 19999999, OUT));
+    ROOT_IS(10000000, 0, 0, 128, 0);
+    DONE(carv_remove(AREA, 4, 0, OUT));
+    ROOT_IS(10000000, 0, 0, 0, 0);
+    ANSWER(carv_refill(AREA, 1, 20000000, OUT), 1);
+    ROOT_IS(20000000, 10000000, 0, 0, 0);
+}
+
 /* A full table, and the last id. */
 static void full_objects(void) {
     open_board(1000000);
@@ -380,7 +409,7 @@ static void full_objects(void) {
     REFUSED(CARV_REFUSED_FULL, carv_insert(AREA, CARV_KIND_NOTIFICATION, 1, 1, OUT));
     REFUSED(CARV_REFUSED_FULL, carv_create(AREA, CARV_KIND_NOTIFICATION, 99, true, OUT));
     REFUSED(CARV_REFUSED_FULL, carv_create_budget(AREA, 1, 0, 0, 0, OUT));
-    DONE(carv_remove(AREA, 2, OUT));
+    DONE(carv_remove(AREA, 2, 0, OUT));
     ANSWER(carv_create(AREA, CARV_KIND_NOTIFICATION, 1, true, OUT), 513);
     open_board(1000000);
     set_word(NEXT_ID, UINT64_MAX - 1);
@@ -497,7 +526,8 @@ static void waits(void) {
     ANSWER(carv_kill(AREA, 0, CARV_CAUSE_FAULTED, OUT), CARV_WAIT_REPLY, 5);
     READS(carv_exit_of(AREA, 0, OUT), CARV_CAUSE_FAULTED);
     READS(carv_exit_of(AREA, 7, OUT), CARV_CAUSE_NONE);
-    DONE(carv_remove(AREA, 2, OUT));
+    DONE(carv_remove(AREA, 2, 12000000, OUT));
+    ROOT_IS(10000000, 8700000, 0, 0, 0);
     DONE(carv_tick(AREA, 13, OUT));
     SEVEN_IS(CARV_STATE_RUNNING, 0, 0, 3);
     ANSWER(carv_plan(AREA, 13, OUT), 1, 7, CARV_IDLE, 0);
@@ -601,6 +631,7 @@ int main(void) {
     charges();
     kinds();
     carvings();
+    removals();
     full_objects();
     thread_0();
     new_threads();

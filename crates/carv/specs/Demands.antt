@@ -106,7 +106,8 @@ pub record Demand1 : Type 0 where
   pub image : (m : List ℕ) (r : ℕ) (m′ : List ℕ) → Filled m r m′ → OfImage m r m′
   pub is-sound : (a : List ℕ) (r : Bool) → r ≡ sound-area a → OfQuestion1 a r
 
--- Demand 2: the calls are answered as the Rust's methods, run beside them from the Rust's `new`.
+-- Demand 2: the calls are answered as the Rust's methods, run beside them from the Rust's `new`; a removal as P2's reference, the Rust's `remove` with `refill` put before
+-- `release_child` (Rust.antt of carv_objects_spec).
 abbrev pub AsRust : List Made → Board → Type 0
 AsRust [] b = Unit {0}
 AsRust (e ∷ es) b = GivenAs e (rust-run (e .call) b) × AsRust es (rust-run (e .call) b .after)

@@ -293,13 +293,13 @@ pub extern "C" fn carv_uncharge(area: &mut [u8], id: u64, bytes: u64, out: &mut 
 }
 
 #[no_mangle]
-pub extern "C" fn carv_remove(area: &mut [u8], id: u64, out: &mut [u64]) -> u64
-    ensures { λ r. ⌜ Exported (on-objects (objects.remove id)) (now (area .entry)) (now (out .entry)) r (now (area .exit)) (now (out .exit)) ⌝ }
+pub extern "C" fn carv_remove(area: &mut [u8], id: u64, time: u64, out: &mut [u64]) -> u64
+    ensures { λ r. ⌜ Exported (on-objects (objects.remove id time)) (now (area .entry)) (now (out .entry)) r (now (area .exit)) (now (out .exit)) ⌝ }
 {
     if out.len() != WORDS {
         return refused::UNSOUND;
     }
-    let answer = carv_scheduler::remove(area, id);
+    let answer = carv_scheduler::remove(area, id, time);
     report(answer, out)
 }
 

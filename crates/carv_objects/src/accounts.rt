@@ -114,12 +114,13 @@ pub fn spend_most(a: Account, ns: u64, time: u64) -> Account
     done.account
 }
 
-// A child returned, if it can be.
-pub fn give_back(a: Account, child: Account) -> Booked
+// A child returned to the renewed account, if it can be.
+pub fn give_back(a: Account, child: Account, time: u64) -> Booked
     requires { ⌜ (sound a ≡ true) × (sound child ≡ true) ⌝ }
-    ensures { λ r. ⌜ Books (returnable a child) (return a child) r ⌝ }
+    ensures { λ r. ⌜ Books (returnable a child) (return (renew a time) child) r ⌝ }
 {
-    let done = a.release_child(child);
+    let renewed = renew(a, time);
+    let done = renewed.release_child(child);
     booking(done)
 }
 

@@ -357,9 +357,10 @@ fn release(a: &mut [u8], j: usize, payer: u64, account: Account, i: usize) -> An
     Answer::Done
 }
 
-pub fn remove(a: &mut [u8], id: u64) -> Answer
+// A removed budget's payer is renewed, and then gets the child back.
+pub fn remove(a: &mut [u8], id: u64, time: u64) -> Answer
     requires { ⌜ sound-area (now a) ≡ true ⌝ }
-    ensures { λ r. ⌜ Serves (remove id) (now (a .entry)) r (now (a .exit)) ⌝ }
+    ensures { λ r. ⌜ Serves (remove id time) (now (a .entry)) r (now (a .exit)) ⌝ }
 {
     let Found::At(i) = area::find(a, id) else {
         return Answer::Refused(refused::MISSING);
@@ -378,7 +379,7 @@ pub fn remove(a: &mut [u8], id: u64) -> Answer
         return Answer::Refused(refused::PAYS);
     }
     let child = e.account;
-    let Booked::Yes(returned) = accounts::give_back(account, child) else {
+    let Booked::Yes(returned) = accounts::give_back(account, child, time) else {
         return Answer::Refused(refused::RETURN);
     };
     let paid = accounts::credit(returned, e.charge);

@@ -84,14 +84,14 @@ pub fn uncharge(area: &mut [u8], id: u64, bytes: u64) -> Answer
     calls::uncharge(area, id, bytes)
 }
 
-// An object taken out.
-pub fn remove(area: &mut [u8], id: u64) -> Answer
-    ensures { λ r. ⌜ Answered (remove id) (now (area .entry)) r (now (area .exit)) ⌝ }
+// An object taken out; a removed budget's payer is renewed at this time, before the child is returned.
+pub fn remove(area: &mut [u8], id: u64, time: u64) -> Answer
+    ensures { λ r. ⌜ Answered (remove id time) (now (area .entry)) r (now (area .exit)) ⌝ }
 {
     if !is_sound(area) {
         return Answer::Refused(refused::UNSOUND);
     }
-    calls::remove(area, id)
+    calls::remove(area, id, time)
 }
 
 // The renewal of a budget.

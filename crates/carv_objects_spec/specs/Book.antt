@@ -157,6 +157,10 @@ renew time b =
     (cond (due time b) (cpu-reserved b) (b .noted-cpu))
     (cond (due time b) 0 (b .taken-cpu))
 
+-- the same where the test holds
+abbrev pub renew-if : Bool → (time : ℕ) → Budget → Budget
+renew-if c time b = cond c (renew time b) b
+
 abbrev pub take-cpu : ℕ → Budget → Budget
 take-cpu ns b = with-cpu b (b .start) (b .carved-cpu) (b .returned-cpu) (b .noted-cpu) (b .taken-cpu + ns)
 
@@ -197,7 +201,7 @@ pub data Call : Type 0 where
   create-budget : (parent cpu memory time : ℕ) → Call
   charge-more : (i bytes : ℕ) → Call
   uncharge : (i bytes : ℕ) → Call
-  remove : (i : ℕ) → Call
+  remove : (i time : ℕ) → Call
   refill : (i time : ℕ) → Call
   charge-cpu : (i ns time : ℕ) → Call
   pays-for-anything : (i : ℕ) → Call
@@ -213,8 +217,9 @@ accepted (create-budget parent cpu memory time) k =
     (on-budget parent (λ b. carve cpu memory (charge 128 (renew time b))) k))
 accepted (charge-more i bytes) k = on-charge i (λ c. c + bytes) (on-budget (object-of k i .payer) (charge bytes) k)
 accepted (uncharge i bytes) k = on-charge i (λ c. c - bytes) (on-budget (object-of k i .payer) (credit bytes) k)
-accepted (remove i) k =
-    on-budget (object-of k i .payer) (λ b. credit (object-of k i .charge) (return (budget-of k i) b)) (remove-object i k)
+-- P2: "last renewal in the budget figures now includes these", the payer's where a live budget is removed
+accepted (remove i time) k =
+    on-budget (object-of k i .payer) (λ b. credit (object-of k i .charge) (return (budget-of k i) (renew-if (is-live k i) time b))) (remove-object i k)
 accepted (refill i time) k = on-budget i (renew time) k
 accepted (charge-cpu i ns time) k = on-budget i (λ b. take-cpu ns (renew time b)) k
 accepted (pays-for-anything i) k = k
@@ -228,7 +233,7 @@ refused-12 (insert kind payer bytes) k = k
 refused-12 (create-budget parent cpu memory time) k = cond (leb 128 (free (budget-of k parent))) (on-budget parent (renew time) k) k
 refused-12 (charge-more i bytes) k = k
 refused-12 (uncharge i bytes) k = k
-refused-12 (remove i) k = k
+refused-12 (remove i time) k = k
 refused-12 (refill i time) k = k
 refused-12 (charge-cpu i ns time) k = on-budget i (renew time) k
 refused-12 (pays-for-anything i) k = k

@@ -90,22 +90,24 @@ create-budget ids parent cpu memory now self =
     let charged : rust.Call (Unit {0}) = rust.charge parent rust.BUDGET-BYTES self in
     charge parent rust.BUDGET-BYTES self ++ if-ok (charged .result) (carve ids parent cpu memory now (charged .self))
 
--- 349 `remove`: 361 `self.entries.remove(&id).expect("checked above")`, then 374 `release_child` of a budget, then the credit
-abbrev pub remove-taken : Entry → Registry → List Check
-remove-taken e self =
+-- 349 `remove`: 361 `self.entries.remove(&id).expect("checked above")`, then P2's `refill` and 374 `release_child` of a budget, then the credit
+abbrev pub remove-taken : (now : ℕ) → Entry → Registry → List Check
+remove-taken now e self =
     cond (rust.is-budget e)
     (if-some (rust.budget-mut (e .payer) self) λ parent.
-    let returned : budget.Call (budget.Result (Unit {0})) = budget.release-child true parent (e .account) in
-    budget-panics.release-child true parent (e .account)
+    let renewed : Account = budget.refill parent now .self in
+    let returned : budget.Call (budget.Result (Unit {0})) = budget.release-child true renewed (e .account) in
+    budget-panics.refill parent now
+    ++ budget-panics.release-child true renewed (e .account)
     ++ budget-panics.if-ok (returned .result) (credit (e .payer) (e .charge) (rust.write-budget (e .payer) (returned .self) self)))
     (credit (e .payer) (e .charge) self)
 
-abbrev pub remove : (id : ℕ) → Registry → List Check
-remove id self =
+abbrev pub remove : (id now : ℕ) → Registry → List Check
+remove id now self =
     cond (eqb id rust.root-id) []
     (if-some (rust.get id self) λ e.
     cond (rust.is-budget e && rust.pays-for-anything id self) []
-    (expect (is-some (rust.get id self)) ∷ remove-taken e (rust.remove-entry id self)))
+    (expect (is-some (rust.get id self)) ∷ remove-taken now e (rust.remove-entry id self)))
 
 -- through `budget_mut`
 abbrev pub refill : (id now : ℕ) → Registry → List Check
@@ -126,7 +128,7 @@ checks (book.insert kind payer bytes) ids r = insert payer bytes r
 checks (book.create-budget parent cpu memory time) ids r = create-budget ids parent cpu memory time r
 checks (book.charge-more i bytes) ids r = charge-more i bytes r
 checks (book.uncharge i bytes) ids r = uncharge i bytes r
-checks (book.remove i) ids r = remove i r
+checks (book.remove i time) ids r = remove i time r
 checks (book.refill i time) ids r = refill i time r
 checks (book.charge-cpu i ns time) ids r = charge-cpu i ns time r
 checks (book.pays-for-anything i) ids r = []

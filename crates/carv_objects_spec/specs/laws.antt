@@ -1,4 +1,4 @@
--- What is proved of the definitions. Questions: each question of each call. Demand1: what a refusal leaves. Kept: calls keep soundness, which SoundFacts has as facts.
+-- What is proved of the definitions. Questions: each question of each call. Removal: what a removal leaves, P2. Demand1: what a refusal leaves. Kept: calls keep soundness, which SoundFacts has as facts.
 -- Refines, Demand2: the calls, and lists of them, are the Rust's. Panics: the Rust doesn't; PanicCases: its lists of what can panic, written out. History: the book's
 -- figures are the lines; Sentences says it field by field. Added, Limits, Edges, Unsound: which refusals are added, codes and limits, document 01's marked cases, and what is not sound, written out.
 -- The others serve these.
@@ -15,6 +15,7 @@ pub mod Added
 pub mod Limits
 pub mod Unsound
 pub mod Questions
+pub mod Removal
 pub mod Edges
 pub mod Asked
 pub mod Panics

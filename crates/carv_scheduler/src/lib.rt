@@ -157,14 +157,14 @@ pub fn uncharge(area: &mut [u8], id: u64, bytes: u64) -> Answer
     Answer::Registry(answer)
 }
 
-// An object taken out.
-pub fn remove(area: &mut [u8], id: u64) -> Answer
-    ensures { λ r. ⌜ Answered (by-registry (remove id)) (now (area .entry)) r (now (area .exit)) ⌝ }
+// An object taken out; a removed budget's payer is renewed at this time, before the child is returned.
+pub fn remove(area: &mut [u8], id: u64, time: u64) -> Answer
+    ensures { λ r. ⌜ Answered (by-registry (remove id time)) (now (area .entry)) r (now (area .exit)) ⌝ }
 {
     if !is_sound(area) {
         return Answer::Refused(refused::UNSOUND);
     }
-    let answer = registry::remove(area, id);
+    let answer = registry::remove(area, id, time);
     Answer::Registry(answer)
 }
 

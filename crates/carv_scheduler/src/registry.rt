@@ -43,11 +43,11 @@ pub fn uncharge(a: &mut [u8], id: u64, bytes: u64) -> Answer
     calls::uncharge(&mut a[0..area::HEAD], id, bytes)
 }
 
-pub fn remove(a: &mut [u8], id: u64) -> Answer
+pub fn remove(a: &mut [u8], id: u64, time: u64) -> Answer
     requires { ⌜ sound-area (now a) ≡ true ⌝ }
-    ensures { λ r. ⌜ ServesRegistry (remove id) (now (a .entry)) r (now (a .exit)) ⌝ }
+    ensures { λ r. ⌜ ServesRegistry (remove id time) (now (a .entry)) r (now (a .exit)) ⌝ }
 {
-    calls::remove(&mut a[0..area::HEAD], id)
+    calls::remove(&mut a[0..area::HEAD], id, time)
 }
 
 pub fn refill(a: &mut [u8], id: u64, time: u64) -> Answer

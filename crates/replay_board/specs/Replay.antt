@@ -27,7 +27,7 @@ pub data Made (c : Call) (a out : List ℕ) (r : ℕ) (a′ out′ : List ℕ) :
   carved : c .op ≡ 4 → Called (by-registry (create-budget (c .first) (c .second) (c .third) (c .fourth))) a out r a′ out′ → Made c a out r a′ out′
   charged : c .op ≡ 5 → Called (by-registry (charge-more (c .first) (c .second))) a out r a′ out′ → Made c a out r a′ out′
   uncharged : c .op ≡ 6 → Called (by-registry (uncharge (c .first) (c .second))) a out r a′ out′ → Made c a out r a′ out′
-  removed : c .op ≡ 7 → Called (by-registry (remove (c .first))) a out r a′ out′ → Made c a out r a′ out′
+  removed : c .op ≡ 7 → Called (by-registry (remove (c .first) (c .second))) a out r a′ out′ → Made c a out r a′ out′
   refilled : c .op ≡ 8 → Called (by-registry (refill (c .first) (c .second))) a out r a′ out′ → Made c a out r a′ out′
   cpu-charged : c .op ≡ 9 → Called (by-registry (charge-cpu (c .first) (c .second) (c .third))) a out r a′ out′ → Made c a out r a′ out′
   asked : c .op ≡ 10 → Called (by-registry (pays-for-anything (c .first))) a out r a out′ → a′ ≡ a → Made c a out r a′ out′

@@ -27,7 +27,7 @@ fn make(area: &mut [u8], call: Call, out: &mut [u64]) -> u64
         4 => carv::carv_create_budget(area, call.first, call.second, call.third, call.fourth, out),
         5 => carv::carv_charge_more(area, call.first, call.second, out),
         6 => carv::carv_uncharge(area, call.first, call.second, out),
-        7 => carv::carv_remove(area, call.first, out),
+        7 => carv::carv_remove(area, call.first, call.second, out),
         8 => carv::carv_refill(area, call.first, call.second, out),
         9 => carv::carv_charge_cpu(area, call.first, call.second, call.third, out),
         10 => carv::carv_pays_for_anything(area, call.first, out),

@@ -52,7 +52,7 @@ pub data Made (c : Call) (a : List ℕ) (x : Answer) (a′ : List ℕ) : Type 0 
   carved : c .op ≡ 4 → Answered (create-budget (c .first) (c .second) (c .third) (c .fourth)) a x a′ → Made c a x a′
   charged : c .op ≡ 5 → Answered (charge-more (c .first) (c .second)) a x a′ → Made c a x a′
   uncharged : c .op ≡ 6 → Answered (uncharge (c .first) (c .second)) a x a′ → Made c a x a′
-  removed : c .op ≡ 7 → Answered (remove (c .first)) a x a′ → Made c a x a′
+  removed : c .op ≡ 7 → Answered (remove (c .first) (c .second)) a x a′ → Made c a x a′
   refilled : c .op ≡ 8 → Answered (refill (c .first) (c .second)) a x a′ → Made c a x a′
   cpu-charged : c .op ≡ 9 → Answered (charge-cpu (c .first) (c .second) (c .third)) a x a′ → Made c a x a′
   asked : c .op ≡ 10 → Answered (pays-for-anything (c .first)) a x a → a′ ≡ a → Made c a x a′

@@ -107,7 +107,7 @@ pub fn matches(area: &mut [u8], call: Call, reply: Reply) -> bool
             reply,
         ),
         6 => replies(carv_objects::uncharge(area, call.first, call.second), reply),
-        7 => replies(carv_objects::remove(area, call.first), reply),
+        7 => replies(carv_objects::remove(area, call.first, call.second), reply),
         8 => replies(carv_objects::refill(area, call.first, call.second), reply),
         9 => replies(
             carv_objects::charge_cpu(area, call.first, call.second, call.third),

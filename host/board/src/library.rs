@@ -23,7 +23,7 @@ pub(crate) fn make(call: Call, Port { area, out, image }: &mut Port) -> u64 {
         } => c::carv_create_budget(area, parent, cpu, memory, time, out),
         Call::ChargeMore { id, bytes } => c::carv_charge_more(area, id, bytes, out),
         Call::Uncharge { id, bytes } => c::carv_uncharge(area, id, bytes, out),
-        Call::Remove { id } => c::carv_remove(area, id, out),
+        Call::Remove { id, time } => c::carv_remove(area, id, time, out),
         Call::Refill { id, time } => c::carv_refill(area, id, time, out),
         Call::ChargeCpu { id, ns, time } => c::carv_charge_cpu(area, id, ns, time, out),
         Call::PaysForAnything { id } => c::carv_pays_for_anything(area, id, out),

@@ -163,7 +163,7 @@ impl Model {
             }
             (Op::ChargeMore, &[id, bytes]) => self.charge_more(id, bytes),
             (Op::Uncharge, &[id, bytes]) => self.uncharge(id, bytes),
-            (Op::Remove, &[id]) => self.remove(id),
+            (Op::Remove, &[id, time]) => self.remove(id, time),
             (Op::Refill, &[id, time]) => self.refill(id, time),
             (Op::ChargeCpu, &[id, ns, time]) => self.charge_cpu(id, ns, time),
             (Op::PaysForAnything, &[id]) => Ok(vec![self.pays(id).into()]),

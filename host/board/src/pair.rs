@@ -7,6 +7,7 @@ use crate::snapshot;
 use carv_compare::board::IDLE;
 use carv_compare::board::call::{Call, Edit, Step};
 use carv_compare::board::reference::{ANSWER_WORDS, Answer, Reference};
+use carv_compare::board::removal::Removal;
 use carv_oracle::Snapshot;
 
 /// What the answer words hold before each call: a call must leave those without a use as they are.
@@ -20,6 +21,7 @@ pub struct Pair {
     reference: Reference,
     /// The area that the port must have.
     expected: Vec<u8>,
+    removal: Option<Removal>,
 }
 
 /// What differs, in a sentence.
@@ -39,6 +41,7 @@ impl Pair {
             port: Port::new(noise.clone()),
             reference: Reference::default(),
             expected: noise,
+            removal: None,
         }
     }
 
@@ -50,6 +53,11 @@ impl Pair {
     /// The area that holds this state.
     pub fn area(&self) -> &[u8] {
         &self.expected
+    }
+
+    /// What the last call met, if it was the removal of an object that was there.
+    pub fn removal(&self) -> Option<Removal> {
+        self.removal
     }
 
     /// Makes a call on both, compares number, answer words, image, area and soundness, and answers
@@ -72,6 +80,7 @@ impl Pair {
     /// # Errors
     /// What differs.
     pub fn call(&mut self, call: Call) -> Result<u64, Difference> {
+        self.removal = Removal::of(call, self.reference.state());
         let answer = self.reference.call(call);
         if self.reference.is_open() && !call.op().is_reading() {
             snapshot::write(self.reference.state(), &mut self.expected);

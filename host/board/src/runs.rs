@@ -66,7 +66,7 @@ pub fn first_difference(count: u64, seed: u64) -> Result<Tally, Finding> {
     while tally.total() < count {
         let (step, number) = boards.step()?;
         if let Step::Call(call) = step {
-            tally.count(call, number, boards.pair.state());
+            tally.count(call, number, &boards.pair);
         }
         progress.tell(tally.total());
     }

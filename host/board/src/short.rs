@@ -14,8 +14,8 @@ struct Lists {
     calls: &'static [Call],
 }
 
-/// A budget, its child and objects of both come and go, at four times of which two renew, and
-/// memory, CPU time and charges run out.
+/// A budget, its child and objects of both come and go, at times at which a payer is due, is not
+/// yet due, or sees a clock that fell, and memory, CPU time and charges run out.
 const REGISTRY: Lists = Lists {
     before: &[open(PERIOD, 9_000)],
     calls: &[
@@ -30,9 +30,9 @@ const REGISTRY: Lists = Lists {
         charge_more(3, 4_096),
         uncharge(1, 100),
         uncharge(2, 128),
-        remove(2),
-        remove(3),
-        remove(4),
+        remove(2, 9_999_999),
+        remove(2, 10_000_000),
+        remove(3, 25_000_000),
         refill(2, 25_000_000),
         spend(2, 4_000_000, 9_999_999),
         spend(1, 4_000_000, 10_000_000),
@@ -68,7 +68,7 @@ const THREADS: Lists = Lists {
         kill(0, 1),
         kill(7, 2),
         kill(8, 1),
-        remove(2),
+        remove(2, 10_000_000),
         new_thread(9, 1),
         start(9),
         spend(2, 1_400_000, 0),
@@ -116,7 +116,7 @@ impl Lists {
                 steps: calls().take(place + 1).map(Step::Call).collect(),
                 difference,
             })?;
-            tally.count(call, number, pair.state());
+            tally.count(call, number, pair);
         }
         Ok(())
     }

@@ -98,7 +98,7 @@ impl<W: FnMut(&Report)> Soak<W> {
         let (step, number) = done.map_err(|finding| End::Found(Found::Calls(finding)))?;
         if let Step::Call(call) = step {
             let report = &mut self.report;
-            report.tally.count(call, number, self.boards.pair.state());
+            report.tally.count(call, number, &self.boards.pair);
             report.time = self.started.elapsed();
             (self.watch)(report);
             if report.is_over() {

@@ -1,17 +1,21 @@
 //! Counts calls by name and by number.
 
-use carv_compare::board::IDLE;
+use crate::pair::Pair;
 use carv_compare::board::call::{Call, Op};
 use carv_compare::board::numbers::{self, NUMBERS};
+use carv_compare::board::removal::{Clock, Removal, What};
+use carv_compare::board::{BUDGET, IDLE};
 use carv_compare::state::entry;
 use carv_oracle::Snapshot;
+use std::collections::BTreeMap;
 use std::fmt;
 
-/// How often each call gave each number, and how far the boards went.
+/// How often each call gave each number, how far the boards went, and what removals met.
 #[derive(Clone, Debug, Default, PartialEq, Eq)]
 pub struct Tally {
     calls: [[u64; NUMBERS]; Op::ALL.len()],
     reached: Reached,
+    removals: BTreeMap<Removal, u64>,
     /// On the current board.
     kills: u64,
 }
@@ -33,9 +37,28 @@ pub struct Reached {
     pub kills: u64,
 }
 
+/// Removals that a report counts together: their name, and which they are.
+pub type Removals = (&'static str, fn(What) -> bool);
+
+/// The removals of budgets, which renew a payer that is due, and those that renew nobody.
+pub const REMOVALS: [Removals; 3] = [
+    ("of a budget", |what| what == What::Kind(BUDGET)),
+    (
+        "of another kind",
+        |what| matches!(what, What::Kind(kind) if kind != BUDGET),
+    ),
+    ("refused with 9, 10", |what| {
+        matches!(what, What::Root | What::Payer)
+    }),
+];
+
 impl Tally {
-    /// Counts a call that gave this number, which document 01 lists, and left this state.
-    pub fn count(&mut self, call: Call, number: u64, after: &Snapshot) {
+    /// Counts a call that gave this number, which document 01 lists, and was the last of this pair.
+    pub fn count(&mut self, call: Call, number: u64, pair: &Pair) {
+        let after = pair.state();
+        if let Some(removal) = pair.removal() {
+            *self.removals.entry(removal).or_default() += 1;
+        }
         let reached = &mut self.reached;
         reached.objects = reached.objects.max(after.entries.len());
         reached.threads = reached.threads.max(after.threads.len());
@@ -90,6 +113,20 @@ impl Tally {
     pub fn reached(&self) -> Reached {
         self.reached
     }
+
+    /// The removals that met just this.
+    pub fn removals(&self, removal: Removal) -> u64 {
+        self.removals.get(&removal).copied().unwrap_or(0)
+    }
+
+    /// The removals of these objects, by when their payers saw them.
+    pub fn removals_by_clock(&self, is_meant: impl Fn(What) -> bool) -> [u64; Clock::ALL.len()] {
+        Clock::ALL.map(|clock| {
+            let meant = |removal: &Removal| removal.clock == clock && is_meant(removal.what);
+            let found = self.removals.iter().filter(|(removal, _)| meant(removal));
+            found.map(|(_, count)| count).sum()
+        })
+    }
 }
 
 /// How far a budget is from the root.
@@ -117,6 +154,14 @@ impl fmt::Display for Tally {
         writeln!(f, "most threads at a time: {}", reached.threads)?;
         writeln!(f, "longest queue: {}", reached.queue)?;
         writeln!(f, "plannings that end with idle: {}", reached.plans_to_idle)?;
-        write!(f, "most kills on a board: {}", reached.kills)
+        write!(f, "most kills on a board: {}", reached.kills)?;
+        for (name, is_meant) in REMOVALS {
+            let [due, not_due, fallen] = self.removals_by_clock(is_meant);
+            write!(
+                f,
+                "\nremovals {name}: {due} with the payer due, {not_due} not due, {fallen} with a clock that fell"
+            )?;
+        }
+        Ok(())
     }
 }

@@ -1,8 +1,10 @@
 //! The comparison finds mistakes: each is planted in the mock in turn.
 
 use carv_board_host::mock::{Mistake, plant};
+use carv_board_host::tally::REMOVALS;
 use carv_board_host::{damaged, runs, short, sound};
 use carv_compare::board::numbers;
+use carv_compare::board::removal::Removal;
 
 const SEED: u64 = 1;
 
@@ -21,6 +23,10 @@ fn random_lists_reach_every_answer() {
         let found = tally.of(op, number);
         assert!(found > 4, "{op:?} with {number}: {found}");
     }
+    for removal in Removal::all() {
+        let found = tally.removals(removal);
+        assert!(found > 4, "{removal:?}: {found}");
+    }
     let reached = tally.reached();
     assert_eq!((reached.objects, reached.threads), (512, 128));
     assert!(reached.kills > 33);
@@ -35,9 +41,16 @@ fn damage_breaks_every_rule() {
     }
 }
 
+/// And they meet removals with the payer due and not due, and those that are accepted also with a
+/// clock that fell.
 #[test]
 fn short_lists_agree() {
-    assert!(short::short(2).is_ok());
+    let tally = short::short(3).expect("no difference");
+    for ((name, is_meant), clocks) in REMOVALS.into_iter().zip([3, 3, 2]) {
+        let found = tally.removals_by_clock(is_meant);
+        let met = found[..clocks].iter().all(|count| *count > 0);
+        assert!(met, "{name}: {found:?}");
+    }
 }
 
 #[test]
@@ -45,6 +58,12 @@ fn random_lists_find_mistakes_in_the_registry() {
     for mistake in [
         Mistake::EveryChargeRefused,
         Mistake::RemovalGivesCpuBack,
+        Mistake::RemovalRenewsNobody,
+        Mistake::RemovalRenewsBehindTheReturn,
+        Mistake::RemovalRenewsForEveryKind,
+        Mistake::RemovalRenewsThePayersPayerToo,
+        Mistake::RemovalRenewsTheRemovedInstead,
+        Mistake::RefusedRemovalRenews,
         Mistake::StartSetToTime,
         Mistake::RenewalForgetsReservations,
         Mistake::KindBeforeCharge,
@@ -135,6 +154,12 @@ fn random_lists_find(mistake: Mistake) {
 fn short_lists_find_mistakes_in_calls() {
     for mistake in [
         Mistake::RemovalGivesCpuBack,
+        Mistake::RemovalRenewsNobody,
+        Mistake::RemovalRenewsBehindTheReturn,
+        Mistake::RemovalRenewsForEveryKind,
+        Mistake::RemovalRenewsThePayersPayerToo,
+        Mistake::RemovalRenewsTheRemovedInstead,
+        Mistake::RefusedRemovalRenews,
         Mistake::StartSetToTime,
         Mistake::RefusedCarveForgetsRenewal,
         Mistake::RefusedCarveKeepsCharge,
@@ -196,15 +221,19 @@ fn damaged_areas_find_mistakes_in_question_1() {
     }
 }
 
+/// By this seed each of these mistakes is found after a few hundred calls on a board.
+const EARLY: u64 = 5;
+
 #[test]
 fn findings_are_short() {
     for (mistake, most) in [
         (Mistake::IdsGivenAgain, 6),
+        (Mistake::RemovalRenewsBehindTheReturn, 4),
         (Mistake::AlwaysIdle, 3),
         (Mistake::MissingBudgetHasTime, 8),
         (Mistake::ExitOfGivesNewest, 6),
     ] {
-        let found = with(mistake, || runs::random(300_000, SEED));
+        let found = with(mistake, || runs::random(300_000, EARLY));
         let finding = found.expect_err("a finding");
         assert!(finding.steps.len() <= most, "{mistake:?}: {finding}");
     }

@@ -58,6 +58,7 @@ fn a_report_is_printed() {
     for part in [
         "the payer can't cover the charge",
         "boards opened",
+        "removals                 payer due       not due    clock fell\nof a budget ",
         "queue ids are distinct",
         "to repeat it: board soak --calls 40000 --seed 3\n",
     ] {
@@ -72,6 +73,10 @@ fn a_report_is_printed() {
     );
     assert!(
         json.starts_with("{\"seed\":3,\"limit\":{\"calls\":40000},"),
+        "{json}"
+    );
+    assert!(
+        json.contains(",\"removals\":{\"budget\":{\"payer_due\":"),
         "{json}"
     );
     assert!(

@@ -61,7 +61,7 @@ functions! { *mut u8, &mut Area, &mut [u8], as_mut_ptr, changes:
     carv_create_budget(parent: u64, cpu: u64, memory: u64, time: u64);
     carv_charge_more(id: u64, bytes: u64);
     carv_uncharge(id: u64, bytes: u64);
-    carv_remove(id: u64);
+    carv_remove(id: u64, time: u64);
     carv_refill(id: u64, time: u64);
     carv_charge_cpu(id: u64, ns: u64, time: u64);
     carv_start(
@@ -115,7 +115,7 @@ unsafe extern "C" {
 /// assert_eq!(carv::c::carv_open(&mut area, 10_000_000, 1_000_000, &mut out), 0);
 /// assert_eq!(carv::c::carv_create(&mut area, 5, 1, true, &mut out), 0);
 /// assert_eq!(out[0], 2);
-/// assert_eq!(carv::c::carv_remove(&mut area, 2, &mut out[1..]), 1);
+/// assert_eq!(carv::c::carv_remove(&mut area, 2, 0, &mut out[1..]), 1);
 /// ```
 pub mod c {
     pub use super::ANSWER_WORDS;

@@ -123,7 +123,11 @@ impl Board {
     }
 
     /// Removes an object: its payer is credited the charge, and reserves a budget's limits no more.
-    /// The payer's CPU left does not move until its next renewal.
+    ///
+    /// The payer of a removed budget is first renewed if that is due now, with the budget's share
+    /// still reserved. Beyond that its CPU left does not move until its next renewal: in a period in
+    /// which the budget may have used its share, the payer doesn't get it too. The removal of
+    /// another kind renews nobody, and so does a refused one.
     ///
     /// Refused with [`Refusal::Missing`], [`Root`](Refusal::Root) and [`Pays`](Refusal::Pays).
     ///
@@ -134,14 +138,22 @@ impl Board {
     /// let limits = Limits { cpu_ns: 4_000_000, memory_bytes: 8_192 };
     /// let counting = board.create_budget(ObjectId::ROOT, limits, 0)?;
     /// let frame = board.create(Kind::Frame, counting, Backing::There)?;
-    /// assert_eq!(board.remove(counting), Err(Refusal::Pays));
-    /// board.remove(frame)?;
-    /// board.remove(counting)?;
-    /// assert_eq!(board.account(ObjectId::ROOT)?.cpu_left_ns, 6_000_000);
+    ///
+    /// // In the second period counting uses its share, and goes.
+    /// board.charge_cpu(counting, 4_000_000, 10_000_000)?;
+    /// let now_ns = 14_000_000;
+    /// assert_eq!(board.remove(counting, now_ns), Err(Refusal::Pays));
+    /// board.remove(frame, now_ns)?;
+    /// board.remove(counting, now_ns)?;
+    ///
+    /// // Of that period the root has the other 6 ms, of the next one all.
+    /// let root = board.account(ObjectId::ROOT)?;
+    /// assert_eq!((root.period_start_ns, root.cpu_left_ns), (10_000_000, 6_000_000));
+    /// assert_eq!(root.cpu_left_at(20_000_000), 10_000_000);
     /// # Ok::<(), Refusal>(())
     /// ```
-    pub fn remove(&mut self, id: ObjectId) -> Result<(), Refusal> {
-        ffi::carv_remove(&mut self.area, id.0)?;
+    pub fn remove(&mut self, id: ObjectId, now_ns: u64) -> Result<(), Refusal> {
+        ffi::carv_remove(&mut self.area, id.0, now_ns)?;
         Ok(())
     }
 

@@ -109,7 +109,7 @@ fn event(
 /// What a call on this board ends, if it is accepted: a thread or a budget.
 fn end(call: &Call, board: &Board, names: &Names) -> Option<String> {
     match (call.form().name, call.arguments()) {
-        ("remove", [id]) => {
+        ("remove", [id, _]) => {
             board.account(ObjectId(*id)).ok()?;
             Some(format!("budget {} is removed", names.id(*id)))
         }

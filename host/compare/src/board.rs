@@ -1,8 +1,8 @@
 //! Calls on a whole board: registry, threads, ready queue and exit log.
 //!
 //! [`call`] has the calls, [`rust`] makes them on the Rust, [`reference`](mod@reference) does so with
-//! the port's added refusals in front. [`numbers`] has what each call can answer, [`walk`] random
-//! calls, [`record`] the calls as records.
+//! the port's added refusals in front. [`numbers`] has what each call can answer, [`removal`] what a
+//! removal meets, [`walk`] random calls, [`record`] the calls as records.
 
 pub mod call;
 mod edges;
@@ -10,6 +10,7 @@ pub mod make;
 pub mod numbers;
 pub mod record;
 pub mod reference;
+pub mod removal;
 pub mod rust;
 pub mod walk;
 

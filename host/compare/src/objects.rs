@@ -85,7 +85,7 @@ fn call(op: Op, [first, second, third, fourth]: [u64; 4]) -> Call {
         Op::CreateBudget => carve(first, second, third, fourth),
         Op::ChargeMore => charge_more(first, second),
         Op::Uncharge => uncharge(first, second),
-        Op::Remove => remove(first),
+        Op::Remove => remove(first, second),
         Op::Refill => refill(first, second),
         Op::ChargeCpu => spend(first, second, third),
         Op::PaysForAnything => pays(first),

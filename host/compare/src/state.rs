@@ -2,6 +2,7 @@
 
 use carv_oracle::account::{self, Account};
 use carv_oracle::{Entry, Snapshot, Thread};
+use std::collections::BTreeSet;
 
 /// The object with this id.
 pub fn entry(state: &Snapshot, id: u64) -> Option<&Entry> {
@@ -18,6 +19,15 @@ pub fn thread(state: &Snapshot, id: u64) -> Option<&Thread> {
 /// Whether an object is a budget.
 pub fn is_budget(entry: &Entry) -> bool {
     entry.account.is_some()
+}
+
+/// The first budget that pays for nothing, from this place of the table on, then from the first on.
+pub fn removable_budget(state: &Snapshot, from: usize) -> Option<u64> {
+    let payers: BTreeSet<u64> = state.entries.iter().map(|entry| entry.payer).collect();
+    let (before, after) = state.entries.split_at(from);
+    let mut all = after.iter().chain(before);
+    let found = all.find(|entry| is_budget(entry) && !payers.contains(&entry.id));
+    found.map(|entry| entry.id)
 }
 
 /// A budget's account; one without anything for another id.

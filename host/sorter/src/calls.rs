@@ -109,8 +109,8 @@ impl Listed {
         })
     }
 
-    pub fn remove(&mut self, id: ObjectId) -> Result<(), Refusal> {
-        self.call("remove", &[id.0], |board| board.remove(id))
+    pub fn remove(&mut self, id: ObjectId, now_ns: u64) -> Result<(), Refusal> {
+        self.call("remove", &[id.0, now_ns], |board| board.remove(id, now_ns))
     }
 
     pub fn refill(&mut self, id: ObjectId, now_ns: u64) -> Result<bool, Refusal> {

@@ -158,7 +158,7 @@ impl Sorter {
     fn happen(&mut self, event: Event, tick: u64) -> Result<(), Refusal> {
         let behind = self.board.length();
         let text = match event {
-            Event::Off(index) => self.switch_off(index)?,
+            Event::Off(index) => self.switch_off(index, tick)?,
             Event::On(index) => {
                 self.switch_on(index, tick)?;
                 format!("{} on again, under new ids", SERVICES[index].name)
@@ -182,13 +182,13 @@ impl Sorter {
     }
 
     /// Switches a service off, and says what it left.
-    fn switch_off(&mut self, index: usize) -> Result<String, Refusal> {
+    fn switch_off(&mut self, index: usize, tick: u64) -> Result<String, Refusal> {
         let name = SERVICES[index].name;
         let Some(live) = self.parts[index].live.take() else {
             return Ok(format!("{name} is off already"));
         };
         self.day.noted[index].run_ticks += self.board.read_thread(live.thread)?.run_ticks;
-        let left = switch_off(&mut self.board, live)?;
+        let left = switch_off(&mut self.board, live, tick)?;
         let wait = match left.wait {
             Some(Wait::Sleep(until)) => format!("asleep until {} ms", grouped(until)),
             _ => "in the middle of its work".to_string(),

@@ -48,12 +48,13 @@ pub struct Left {
 }
 
 /// Kills a service's thread, and removes its objects and its budget.
-pub fn switch_off(board: &mut Listed, live: Live) -> Result<Left, Refusal> {
+pub fn switch_off(board: &mut Listed, live: Live, tick: u64) -> Result<Left, Refusal> {
+    let now = tick * TICK_NS;
     let wait = board.kill(live.thread, Cause::Destroyed)?;
     for object in &live.objects {
-        board.remove(*object)?;
+        board.remove(*object, now)?;
     }
-    board.remove(live.budget)?;
+    board.remove(live.budget, now)?;
     Ok(Left {
         wait,
         objects: live.objects.len(),

@@ -128,7 +128,7 @@ fn another(cpu_ns: u64) -> Result<(Board, ObjectId), Refusal> {
     let mut board = Board::open(BOARD)?;
     for _ in 0..1_000 {
         let object = board.create(Kind::Endpoint, ObjectId::ROOT, Backing::There)?;
-        board.remove(object)?;
+        board.remove(object, 0)?;
     }
     let limits = Limits {
         cpu_ns,

@@ -1,27 +1,38 @@
 -- The demands over exported calls, sentence by sentence: each theorem is drawn from `demand1`, `demand2` or `demand3`, with the fields written out. A claim that said less would
 -- be refused here. Assumes nothing.
-use mathlib.Core.Path.{_≡_, refl, ap, _∙_}
-use mathlib.Core.Bool.{true, false}
+use mathlib.Core.Path.{_≡_, refl, sym, ap, subst, _∙_}
+use mathlib.Core.Bool.{Bool, true, false, cond, _&&_}
 use mathlib.Core.Option.{none}
-use mathlib.Core.List.{List, [], _∷_, _++_}
-use Prim.Native.Nat.{ℕ, _+_, _-_, _<_, _≤_}
-use lib.ListN.{getD}
+use mathlib.Core.List.{List, [], _∷_, _++_, map}
+use Prim.Native.Nat.{ℕ, _+_, _-_, _%_, _<_, _≤_}
+use lib.Dec.{eqb, leb}
+use lib.ListN.{length, getD}
 use borrow.Author.Tests.{ne-eqb}
-use Rattle.carv_objects_spec.specs.Registry.{account-of, is-budget, Registry}
+use Rattle.carv_area.specs.Table.{at}
+use Rattle.carv_budget.specs.Account.{due}
+use Rattle.carv_budget.specs.Panics.{AllPass}
+use Rattle.carv_objects_spec.specs.Registry.{account-of, entry, is-budget, payer-of, Registry, remove}
 use Rattle.carv_objects_spec.specs.Book as objects
-use Rattle.carv_objects_spec.specs.Book.{Budget, Figures, budget-of, is-live}
+use Rattle.carv_objects_spec.specs.Book.{Budget, Figures, budget-of, figures, is-live}
 use Rattle.carv_objects_spec.specs.Demand1 as objects-demand1
+use Rattle.carv_objects_spec.specs.laws.Removal as removal
+use Rattle.carv_objects_spec.specs.laws.Removal.{Released, Credited, budget-removed, object-removed}
 use Rattle.carv_scheduler.specs.declared.Answer.{Answer}
-use Rattle.carv_scheduler.specs.Answer.{value}
+use Rattle.carv_objects_spec.specs.Panics as panics
+use Rattle.carv_objects_spec.specs.Runs.{line}
+use Rattle.carv_scheduler.specs.Answer.{number, value}
 use Rattle.carv_scheduler.specs.Area.{decode, sound-area}
-use Rattle.carv_scheduler_spec.specs.Scheduler.{Board, BoardReply}
+use Rattle.carv_scheduler.specs.laws.AreaLaws.{area-sound}
+use Rattle.carv_scheduler.specs.Image.{register-image, Filled}
+use Rattle.carv_scheduler_spec.specs.Scheduler.{Board, BoardReply, opening}
 use Rattle.carv_scheduler_spec.specs.Book.{Call, on-objects, create-user-thread, start, block-current, wake, is-blocked-on, kill, tick, plan, read-thread, read-current, read-switches, exit-of}
 use Rattle.carv_scheduler_spec.specs.Runs.{run}
 use Rattle.carv_scheduler_spec.specs.Rust as rust
+use Rattle.carv_scheduler_spec.specs.Panics.{NoPanics}
 use Rattle.carv_scheduler_spec.specs.Demand1.{renewal-left}
 use Rattle.carv_scheduler_spec.specs.Demand2.{rust-run}
 use Rattle.carv_scheduler_spec.specs.Demand3.{Planned}
-use Rattle.carv.specs.C.{reported, Opens, Made, Ensures, lent}
+use Rattle.carv.specs.C.{reported, Opens, has-image, Made, Ensures, lent}
 use Rattle.carv.specs.Demands.{Ran, last, GivenAs, NoneAdded, AllWords, booked}
 use Rattle.carv.specs.laws.Demand1.{demand1}
 use Rattle.carv.specs.laws.Demand2.{demand2}
@@ -29,8 +40,9 @@ use Rattle.carv.specs.laws.Demand3.{demand3}
 
 -- How a call is answered: the number, the values in the answer words, the board that the area says.
 pub answered-as : (e : Made) (z : BoardReply) → GivenAs e z
-    → (e .returned ≡ z .number) × ((x : Answer) × (value x ≡ z .value) × (e .words′ ≡ reported x (e .words))) × (sound-area (e .left) ≡ true) × (decode (e .left) ≡ z .after)
-answered-as e z g = (g .number, (g .answer, g .value, g .written), g .area .sound, g .area .same)
+    → (e .returned ≡ z .number) × ((x : Answer) × (e .returned ≡ number x) × (value x ≡ z .value) × (e .words′ ≡ reported x (e .words)))
+    × (sound-area (e .left) ≡ true) × (decode (e .left) ≡ z .after)
+answered-as e z g = (g .number, (g .answer, g .returned, g .value, g .written), g .area .sound, g .area .same)
 
 -- Demand 1.
 
@@ -42,6 +54,19 @@ module _ (a : List ℕ) (e : Made) (h : Ensures a e) where
   -- "Every other call, a damaged state included, returns the number .. and changes nothing"
   pub damaged-refused : sound-area a ≡ false → lent e ≡ true → (e .returned ≡ 1) × (e .left ≡ a) × (e .words′ ≡ e .words) × (e .image′ ≡ e .image)
   damaged-refused s y = let u = demand1 .calls a e h .damaged y s in (u .number, u .area, u .words, u .image)
+
+  -- "Are lent areas of their length?" Answer words and image
+  pub wrong-length-refused : lent e ≡ false → (e .returned ≡ 1) × (e .left ≡ a) × (e .words′ ≡ e .words) × (e .image′ ≡ e .image)
+  wrong-length-refused y = let u = demand1 .calls a e h .lengths y in (u .number, u .area, u .words, u .image)
+
+  -- "An accepted creation fills the lent area", and nothing else touches it
+  pub image-filled : lent e ≡ true → e .image′ ≡ cond (has-image (e .call) && eqb (e .returned) 0) register-image (e .image)
+  image-filled = demand1 .calls a e h .image
+
+  -- a sound area of bytes that says the same board is this one, byte for byte
+  pub bytes-fixed : lent e ≡ true → sound-area a ≡ true → ((i : ℕ) → getD (e .left) i 0 < 256) → (b : List ℕ) → ((i : ℕ) → getD b i 0 < 256) → sound-area b ≡ true
+      → decode b ≡ run (e .call) (decode a) .after → b ≡ e .left
+  bytes-fixed y s x b x′ sound same = demand1 .calls a e h .exact y s x b x′ (record { sound = sound; same = same })
 
   module _ (n : e .returned ≡ 0 → ⊥) (x : (i : ℕ) → getD a i 0 < 256) (x′ : (i : ℕ) → getD (e .left) i 0 < 256) where
     pub refused-writes-nothing : (e .words′ ≡ e .words) × (e .image′ ≡ e .image)
@@ -56,7 +81,7 @@ module _ (a : List ℕ) (e : Made) (h : Ensures a e) where
         of-registry (objects.create-budget parent cpu memory time) n r d = rw (ne-eqb n 12 d)
         of-registry (objects.charge-more i bytes) n r d = refl
         of-registry (objects.uncharge i bytes) n r d = refl
-        of-registry (objects.remove i) n r d = refl
+        of-registry (objects.remove i time) n r d = refl
         of-registry (objects.refill i time) n r d = refl
         of-registry (objects.charge-cpu i ns time) n r d = rw (ne-eqb n 12 d)
         of-registry (objects.pays-for-anything i) n r d = refl
@@ -83,6 +108,80 @@ module _ (a : List ℕ) (e : Made) (h : Ensures a e) where
         → (r : Made) → r .call ≡ on-objects (objects.refill i time) → lent r ≡ true → Ensures a r → ((j : ℕ) → getD (r .left) j 0 < 256) → e .left ≡ r .left
     refused-charge-renews i ns time c q = demand1 .calls a e h .refused n x x′ .renewed i time (rw (c, q))
 
+    -- P2: "A refused removal .. renews nothing": it leaves every byte, whatever the number
+    pub refused-removal-leaves-bytes : (i time : ℕ) → e .call ≡ on-objects (objects.remove i time) → e .left ≡ a
+    refused-removal-leaves-bytes i time c = demand1 .calls a e h .refused n x x′ .area (rw c)
+
+  -- P2, of an accepted removal
+  module _ (i time : ℕ) (c : e .call ≡ on-objects (objects.remove i time)) (y : lent e ≡ true) (s : sound-area a ≡ true) (n : e .returned ≡ 0) where
+    abbrev before : Registry
+    before = decode a .registry
+
+    abbrev payer : ℕ
+    payer = payer-of before i
+
+    accepted : remove i time before .number ≡ 0
+    accepted = let (number, same) = rules-followed y s in sym (rw c at number) ∙ n
+
+    left : remove i time before .after ≡ decode (e .left) .registry
+    left = let (number, same) = rules-followed y s in sym (ap (λ (x : Board). x .registry) (rw c at same))
+
+    module _ (b : is-budget before i ≡ true) where
+      released : Released (account-of before payer) (account-of before i) (entry before i .charge) time (account-of (decode (e .left) .registry) payer)
+      released = subst (λ (x : Registry). Released (account-of before payer) (account-of before i) (entry before i .charge) time (account-of x payer)) left
+          (budget-removed i time before (area-sound a s .registry) b accepted)
+
+      -- "a removed budget's payer is renewed at that time, before the child is returned": CPU left is what was not reserved with the child's share in it
+      pub payer-renewed : due (account-of before payer) time ≡ true
+          → (account-of (decode (e .left) .registry) payer .«period_start» ≡ time - (time - account-of before payer .«period_start») % 10_000_000)
+          × (account-of (decode (e .left) .registry) payer .«cpu_left» ≡ account-of before payer .«cpu_allowance» - account-of before payer .«cpu_reserved»)
+      payer-renewed d = (released .start-due d, released .left-due d)
+
+      pub payer-not-due : due (account-of before payer) time ≡ false
+          → (account-of (decode (e .left) .registry) payer .«period_start» ≡ account-of before payer .«period_start»)
+          × (account-of (decode (e .left) .registry) payer .«cpu_left» ≡ account-of before payer .«cpu_left»)
+      payer-not-due d = (released .start-not-due d, released .left-not-due d)
+
+      pub child-returned : (account-of (decode (e .left) .registry) payer .«cpu_reserved» ≡ account-of before payer .«cpu_reserved» - account-of before i .«cpu_allowance»)
+          × (account-of (decode (e .left) .registry) payer .«memory_reserved» ≡ account-of before payer .«memory_reserved» - account-of before i .«memory_limit»)
+          × (account-of (decode (e .left) .registry) payer .«memory_used» ≡ account-of before payer .«memory_used» - entry before i .charge)
+      child-returned = (released .cpu-reserved, released .memory-reserved, released .used)
+
+    -- ".. or that of another kind, renews nothing"
+    pub other-kind-renews-nothing : is-budget before i ≡ false
+        → (account-of (decode (e .left) .registry) payer .«period_start» ≡ account-of before payer .«period_start»)
+        × (account-of (decode (e .left) .registry) payer .«cpu_left» ≡ account-of before payer .«cpu_left»)
+    other-kind-renews-nothing b =
+        let k : Credited (account-of before payer) (entry before i .charge) (account-of (decode (e .left) .registry) payer)
+        = subst (λ (x : Registry). Credited (account-of before payer) (entry before i .charge) (account-of x payer)) left
+        (object-removed i time before (area-sound a s .registry) b accepted) in (k .start, k .left)
+
+    -- no other entry changes
+    pub others-stay : (j : ℕ) → (i ≡ j → ⊥) → (payer ≡ j → ⊥) → at (decode (e .left) .registry .rows) j ≡ at (before .rows) j
+    others-stay j p q = subst (λ (x : Registry). at (x .rows) j ≡ at (before .rows) j) left (removal.others-stay i time j before p q)
+
+-- the opening: 1 for a length, 2 for the share, which leave every byte; else the opened board, written in one way, over whatever the bytes were
+module _ (cpu memory : ℕ) (a out : List ℕ) (r : ℕ) (a′ out′ : List ℕ) (o : Opens cpu memory a out r a′ out′) where
+  pub opening-number : r ≡ cond (eqb (length out) 20 && eqb (length a) 68_144) (cond (leb cpu 10_000_000) 0 2) 1
+  opening-number = demand1 .opens cpu memory a out r a′ out′ o .number
+
+  pub opening-refused : (r ≡ 0 → ⊥) → (a′ ≡ a) × (out′ ≡ out)
+  opening-refused n = let u = demand1 .opens cpu memory a out r a′ out′ o in (u .refused n, u .words)
+
+  pub opening-accepted : r ≡ 0 → (sound-area a′ ≡ true) × (decode a′ ≡ opening cpu memory) × (out′ ≡ out)
+  opening-accepted n = let u = demand1 .opens cpu memory a out r a′ out′ o in (u .opened n .sound, u .opened n .same, u .words)
+
+  pub opening-bytes-fixed : r ≡ 0 → ((i : ℕ) → getD a′ i 0 < 256) → (b : List ℕ) → ((i : ℕ) → getD b i 0 < 256) → sound-area b ≡ true → decode b ≡ opening cpu memory → b ≡ a′
+  opening-bytes-fixed n x b x′ sound same = demand1 .opens cpu memory a out r a′ out′ o .exact n x b x′ (record { sound = sound; same = same })
+
+-- the register image, in 512 bytes and in no others
+pub image-answered : (m : List ℕ) (r : ℕ) (m′ : List ℕ) → Filled m r m′ → (r ≡ cond (eqb (length m) 512) 0 1) × (m′ ≡ cond (eqb r 0) register-image m)
+image-answered m r m′ f = let u = demand1 .image m r m′ f in (u .number, u .image)
+
+-- `carv_is_sound` answers question 1 of every call
+pub question-1 : (a : List ℕ) (r : Bool) → r ≡ sound-area a → (e : Made) → Ensures a e → (r ≡ false → e .returned ≡ 1) × (r ≡ true → lent e ≡ true → e .returned ≡ 1 → ⊥)
+question-1 a r q e h = let u = demand1 .is-sound a r q in (λ no. u .no no e h, λ yes. u .yes yes e h)
+
 -- Demand 2, from an accepted opening: the opened board is the Rust's, and so is the answer to each call in a list without an added refusal; here to the first.
 module _ (cpu memory : ℕ) (a₀ a out out′ : List ℕ) (o : Opens cpu memory a₀ out 0 a out′) where
   pub opened-as-rust : decode a ≡ rust.new cpu memory
@@ -92,7 +191,21 @@ module _ (cpu memory : ℕ) (a₀ a out out′ : List ℕ) (o : Opens cpu memory
       → (e .returned ≡ rust-run (e .call) (rust.new cpu memory) .number) × (decode (e .left) ≡ rust-run (e .call) (rust.new cpu memory) .after)
   first-as-rust e es h n = let g = demand2 cpu memory a₀ a out out′ o (e ∷ es) h n .answers .0 in (g .number, g .area .same)
 
-  -- Demand 3: a live budget's line, field by field
+  -- .. and the Rust doesn't panic on the way
+  pub rust-panics-not : (es : List Made) → Ran es a → NoneAdded es → memory < 18_446_744_073_709_551_616 → AllWords es
+      → AllPass (panics.new 1 cpu memory) × NoPanics (map (λ (e : Made). e .call) es) 2 (rust.new cpu memory)
+  rust-panics-not es h n = demand2 cpu memory a₀ a out out′ o es h n .no-panics
+
+  -- Demand 3: "two lists leave a budget equal lines exactly when these agree"
+  pub equal-lines : (es : List Made) → Ran es a → AllWords es → (es′ : List Made) (b₀ b w w′ : List ℕ) (cpu′ memory′ : ℕ) → Opens cpu′ memory′ b₀ w 0 b w′
+      → Ran es′ b → AllWords es′ → (i : ℕ) → is-budget (decode (last es a) .registry) i ≡ true → is-budget (decode (last es′ b) .registry) i ≡ true
+      → (line (account-of (decode (last es a) .registry) i) ≡ line (account-of (decode (last es′ b) .registry) i)
+      → figures (budget-of (booked es cpu memory .objects) i) ≡ figures (budget-of (booked es′ cpu′ memory′ .objects) i))
+      × (figures (budget-of (booked es cpu memory .objects) i) ≡ figures (budget-of (booked es′ cpu′ memory′ .objects) i)
+      → line (account-of (decode (last es a) .registry) i) ≡ line (account-of (decode (last es′ b) .registry) i))
+  equal-lines es h f es′ b₀ b w w′ cpu′ memory′ = demand3 cpu memory a₀ a out out′ o es h f .equal es′ b₀ b w w′ cpu′ memory′
+
+  -- a live budget's line, field by field
   module _ (es : List Made) (h : Ran es a) (f : AllWords es) (i : ℕ) (l : is-budget (decode (last es a) .registry) i ≡ true) where
     abbrev budget : Budget
     budget = budget-of (booked es cpu memory .objects) i

@@ -179,6 +179,11 @@ pub renewal : (a : Account) (t : ℕ) → Renewal a t
 unfolding renew
 renewal a t = record { cpu-allowance = refl; memory-limit = refl; start = refl; left = refl; cpu-reserved = refl; used = refl; memory-reserved = refl }
 
+-- it leaves the reservations, so what can be returned, as they are
+pub returnable-renewed : (a child : Account) (t : ℕ) → returnable (renew a t) child ≡ returnable a child
+unfolding returnable renew
+returnable-renewed a child t = refl
+
 -- a renewal is no more due at its own time
 restarted : (a : Account) (t left reserved : ℕ) → due (with-cpu a (t - (t - a .«period_start») % period) left reserved) t ≡ false
 unfolding due

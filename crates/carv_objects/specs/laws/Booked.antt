@@ -12,6 +12,7 @@ use Rattle.carv_budget.specs.declared.Answer.the-variants.{Done, Renewed, NotDu
 use Rattle.carv_budget.specs.declared.Outcome.{Outcome}
 use Rattle.carv_budget.specs.declared.CarveOut.{CarveOut}
 use Rattle.carv_budget.specs.Account as account
+use Rattle.carv_budget.specs.laws.Account.{renew-sound, returnable-renewed}
 use Rattle.carv_objects.specs.declared.Answer as objects
 use Rattle.carv_objects_spec.specs.Reply.{renewed}
 use Rattle.carv_objects.specs.Answer.{number, value}
@@ -96,9 +97,12 @@ module _ (a : Account) (h : account.sound a ≡ true) where
   spend-books ns time o e =
       books (leb ns (account.renew a time .«cpu_left»)) (account.spend (account.renew a time) ns) (account.renew a time) CpuLimitReached refl o (spend-is ns time o e)
 
-  pub return-books : (child : Account) → account.sound child ≡ true → (o : Outcome) → o ≡ account.release-child a child → (r : Booked) → Books (done (o .answer)) (o .account) r
-      → Books (account.returnable a child) (account.return a child) r
-  return-books child k o e = books (account.returnable a child) (account.return a child) a ReservationUnderflow refl o (e ∙ rw (h, k))
+  pub return-books : (child : Account) → account.sound child ≡ true → (time : ℕ) (b : Account) → b ≡ account.renew a time
+      → (o : Outcome) → o ≡ account.release-child b child → (r : Booked) → Books (done (o .answer)) (o .account) r
+      → Books (account.returnable a child) (account.return (account.renew a time) child) r
+  return-books child k time b w o e =
+      books (account.returnable a child) (account.return (account.renew a time) child) (account.renew a time) ReservationUnderflow refl o
+      (e ∙ rw (w, renew-sound a time h, k, returnable-renewed a child time))
 
   module _ (cpu memory time : ℕ) (o : CarveOut) (e : o ≡ account.carve-out a cpu memory time) (d : Bool) (said : d ≡ done (o .answer)) where
     carve-is : o ≡ account.carved (account.renew a time) cpu memory

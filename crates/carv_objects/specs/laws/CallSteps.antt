@@ -12,7 +12,7 @@ use lib.ListN.{length, getD, length-map, List·getD-map, drop-of-length-le}
 use lib.ListN as list
 use lib.Seq.{drop-cons}
 use borrow.Author.Tests.{eqb-true, eq-eqb, ne-eqb, leb-true, le-leb, lt-leb}
-use Rattle.carv_area.specs.Table.{Row, Rising, at, alter, erase}
+use Rattle.carv_area.specs.Table.{Row, Rising, at, alter}
 use Rattle.carv_area.specs.laws.Table.{test, length-alter}
 use Rattle.carv_area.specs.Words.{words}
 use Rattle.carv_area.specs.laws.Words.{word-below}
@@ -25,7 +25,7 @@ use Rattle.carv_area.specs.declared.Found.{Found}
 use Rattle.carv_area.specs.declared.Found.the-variants.{At, Nothing}
 use Rattle.carv_budget.specs.declared.Account.{Account}
 use Rattle.carv_budget.specs.Account as account
-use Rattle.carv_budget.specs.laws.Account.{not-second, return-sound, sound-told}
+use Rattle.carv_budget.specs.laws.Account.{not-second, renew-sound, renewal, return-sound, sound-told}
 use Rattle.carv_objects_spec.specs.declared.Entry.{Entry}
 use Rattle.carv_objects.specs.declared.Answer.{Answer}
 use Rattle.carv_objects.specs.declared.Answer.the-variants.{Done, Refused}
@@ -36,7 +36,7 @@ use Rattle.carv_objects_spec.specs.laws.SoundFacts.{Sound}
 use Rattle.carv_objects_spec.specs.laws.SoundLaws.{account-sound}
 use Rattle.carv_objects_spec.specs.laws.Steps.{ObjectEntry, budget-entry, at-on-account}
 use Rattle.carv_objects_spec.specs.laws.Kept as kept
-use Rattle.carv_objects_spec.specs.laws.Refines.{alter-known, return-blank}
+use Rattle.carv_objects_spec.specs.laws.Refines.{alter-known, erase-alter, return-blank}
 use Rattle.carv_objects.specs.Area.{table, decode, sound-area, Serves}
 use Rattle.carv_objects.specs.laws.Rows.{no-row, row-at-is}
 use Rattle.carv_objects.specs.laws.Formed.{WellFormed, Leaves, leaves-as}
@@ -52,15 +52,6 @@ module _ {A : Type 0} where
   ids-alter (r ∷ m) p f = test (eqb (r .id) p)
       (λ e. rw e (ap (λ (n : ℕ). n ∷ ids m) (sym (eqb-true (r .id) p e))))
       (λ e. rw e (ap (_∷_ (r .id)) (ids-alter m p f)))
-
-  -- an alteration and the removal of another id commute
-  pub erase-alter : (m : List (Row A)) (i p : ℕ) (f : A → A) → (i ≡ p → ⊥) → erase i (alter p f m) ≡ alter p f (erase i m)
-  erase-alter [] i p f h = refl
-  erase-alter (r ∷ m) i p f h = test (eqb (r .id) i)
-      (λ e. rw (ne-eqb (r .id) p (λ q. h (sym (eqb-true (r .id) i e) ∙ q)), e))
-      (λ e. test (eqb (r .id) p)
-      (λ d. rw (e, d, ne-eqb p i (λ q. h (sym q))))
-      (λ d. rw (e, d, e) (ap (_∷_ r) (erase-alter m i p f h))))
 
   -- the row with id x stays where it stands
   pub here-moved : (d : Row A) (m : List (Row A)) (l n : ℕ) → d .id ≡ 0 → Rising l n m → (p : ℕ) (f : A → A) (x i : ℕ) → Here d m x i → Here d (alter p f m) x i
@@ -156,8 +147,8 @@ module _ (r : Registry) (s : Sound r) (x i : ℕ) (h : Here no-row (r .rows) x i
     pub credit-asks : (n : ℕ) → n ≤ e .charge → (account.sound y ≡ true) × (n ≤ y .«memory_used»)
     credit-asks n b = (payer-sound, omega (arith, charge-used))
 
-    pub returned-asks : (z : Account) → z ≡ account.return y (e .account) → (account.sound z ≡ true) × (e .charge ≤ z .«memory_used»)
-    returned-asks z u = rw u (return-sound y (e .account) payer-sound, charge-used)
+    pub returned-asks : (time : ℕ) (z : Account) → z ≡ account.return (account.renew y time) (e .account) → (account.sound z ≡ true) × (e .charge ≤ z .«memory_used»)
+    returned-asks time z u = rw u (return-sound (account.renew y time) (e .account) (renew-sound y time payer-sound), omega (arith, charge-used, renewal y time .used))
 
     -- a charge that the payer covers is within its limit
     charge-within-limit : (n : ℕ) → leb n (account.free y) ≡ true → e .charge + n ≤ y .«memory_limit»
@@ -239,44 +230,46 @@ module _ (a : List ℕ) (s : sound-area a ≡ true) (x i : ℕ) (h : Here no-row
       (leaves-as a′ _ _ (booked-is r S x i h e q j p y w (λ c. account.credit c n) (λ c. c - n) z u) (l .1))
       (kept-at _ _ (kept.uncharge-kept x n r S) k)
 
-  module _ (not-root : x ≡ 1 → ⊥) where
-    -- the payer's account goes by the return and the credit
-    abbrev back : Account → Account
-    back c = account.credit (account.return c (account-of r x)) (entry r x .charge)
+  module _ (not-root : x ≡ 1 → ⊥) (time : ℕ) where
+    module _ (f : Account → Account) where
+      -- the payer's account goes by f, which is nothing or a renewal, then by the return and the credit
+      abbrev back : Account → Account
+      back c = account.credit (account.return (f c) (account-of r x)) (entry r x .charge)
 
-    back-read : back y ≡ account.credit (account.return y (e .account)) (e .charge)
-    back-read = ap (λ (c : Entry). account.credit (account.return y (c .account)) (c .charge)) (object-read r S x i h e q)
+      back-read : back y ≡ account.credit (account.return (f y) (e .account)) (e .charge)
+      back-read = ap (λ (c : Entry). account.credit (account.return (f y) (c .account)) (c .charge)) (object-read r S x i h e q)
 
-    removed : (z : Account) → z ≡ back y → (k : remove x r ≡ accept none (budget (payer-of r x) back (drop x r))) → (v : Answer) (a′ : List ℕ)
-        → (v ≡ Done) × Leaves a′ (with-rows (removeAt (budget (e .payer) (λ _. z) r .rows) i) r) → Serves (remove x) a v a′
-    removed z u k v a′ l =
-        answered (remove x) a s _ k v (ap number (l .0)) (ap value (l .0)) a′
-        (leaves-as a′ _ _ (released-is r S x i h e q j p y w not-root back z u) (l .1))
-        (kept-at _ _ (kept.remove-kept x r S) k)
+      removed : (z : Account) → z ≡ back y → (k : remove x time r ≡ accept none (budget (payer-of r x) back (drop x r))) → (v : Answer) (a′ : List ℕ)
+          → (v ≡ Done) × Leaves a′ (with-rows (removeAt (budget (e .payer) (λ _. z) r .rows) i) r) → Serves (remove x time) a v a′
+      removed z u k v a′ l =
+          answered (remove x time) a s _ k v (ap number (l .0)) (ap value (l .0)) a′
+          (leaves-as a′ _ _ (released-is r S x i h e q j p y w not-root back z u) (l .1))
+          (kept-at _ _ (kept.remove-kept x time r S) k)
 
     -- an object that is no budget
     pub remove-plain : (e .kind ≡ 6 → ⊥) → (z : Account) → z ≡ account.credit y (e .charge) → (v : Answer) (a′ : List ℕ)
-        → (v ≡ Done) × Leaves a′ (with-rows (removeAt (budget (e .payer) (λ _. z) r .rows) i) r) → Serves (remove x) a v a′
+        → (v ≡ Done) × Leaves a′ (with-rows (removeAt (budget (e .payer) (λ _. z) r .rows) i) r) → Serves (remove x time) a v a′
     remove-plain other z u =
         let blank : e .account ≡ account.blank = S .each x e (h .is ∙ ap some (sym q)) .plain (ne-eqb (e .kind) 6 other) in
         let same : account.return y (e .account) ≡ y = ap (account.return y) blank ∙ return-blank y in
-        removed z (u ∙ sym (back-read ∙ ap (λ (c : Account). account.credit c (e .charge)) same))
-        (asks.remove-object x r (here-has r x i h) not-root (here-other r x i h e q other))
+        removed (λ c. c) z (u ∙ sym (back-read (λ c. c) ∙ ap (λ (c : Account). account.credit c (e .charge)) same))
+        (asks.remove-object x time r (here-has r x i h) not-root (here-other r x i h e q other))
 
     module _ (k : e .kind ≡ 6) where
-      pub remove-in-use : pays-for r x ≡ true → Serves (remove x) a (Refused 10) a
-      remove-in-use d = refused (remove x) a s 10 (asks.remove-paying x r (here-has r x i h) not-root (here-budget r x i h e q k .1) d)
+      pub remove-in-use : pays-for r x ≡ true → Serves (remove x time) a (Refused 10) a
+      remove-in-use d = refused (remove x time) a s 10 (asks.remove-paying x time r (here-has r x i h) not-root (here-budget r x i h e q k .1) d)
 
       module _ (d : pays-for r x ≡ false) where
         accounts : account.returnable (account-of r (payer-of r x)) (account-of r x) ≡ account.returnable y (e .account)
         accounts = ap (λ (c : Account). account.returnable c (account-of r x)) (payer-account r S x i h e q j p y w)
             ∙ ap (λ (c : Entry). account.returnable y (c .account)) (object-read r S x i h e q)
 
-        pub remove-refused : account.returnable y (e .account) ≡ false → Serves (remove x) a (Refused 15) a
-        remove-refused b = refused (remove x) a s 15 (asks.remove-kept x r (here-has r x i h) not-root (here-budget r x i h e q k .1) d (accounts ∙ b))
+        pub remove-refused : account.returnable y (e .account) ≡ false → Serves (remove x time) a (Refused 15) a
+        remove-refused b = refused (remove x time) a s 15 (asks.remove-kept x time r (here-has r x i h) not-root (here-budget r x i h e q k .1) d (accounts ∙ b))
 
-        pub remove-served : (z : Account) → (account.returnable y (e .account) ≡ true) × (z ≡ account.return y (e .account)) → (t : Account) → t ≡ account.credit z (e .charge)
-            → (v : Answer) (a′ : List ℕ) → (v ≡ Done) × Leaves a′ (with-rows (removeAt (budget (e .payer) (λ _. t) r .rows) i) r) → Serves (remove x) a v a′
+        pub remove-served : (z : Account) → (account.returnable y (e .account) ≡ true) × (z ≡ account.return (account.renew y time) (e .account))
+            → (t : Account) → t ≡ account.credit z (e .charge) → (v : Answer) (a′ : List ℕ)
+            → (v ≡ Done) × Leaves a′ (with-rows (removeAt (budget (e .payer) (λ _. t) r .rows) i) r) → Serves (remove x time) a v a′
         remove-served z b t u =
-            removed t (u ∙ ap (λ (c : Account). account.credit c (e .charge)) (b .1) ∙ sym back-read)
-            (asks.remove-budget x r (here-has r x i h) not-root (here-budget r x i h e q k .1) d (accounts ∙ b .0))
+            removed (λ c. account.renew c time) t (u ∙ ap (λ (c : Account). account.credit c (e .charge)) (b .1) ∙ sym (back-read (λ c. account.renew c time)))
+            (asks.remove-budget x time r (here-has r x i h) not-root (here-budget r x i h e q k .1) d (accounts ∙ b .0))

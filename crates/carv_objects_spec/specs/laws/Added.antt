@@ -47,8 +47,8 @@ charge-more-added i bytes = refl
 pub uncharge-added : (i bytes : ℕ) → those (is-added (uncharge i bytes)) ≡ 1 ∷ 2 ∷ 3 ∷ 4 ∷ 5 ∷ 6 ∷ 7 ∷ 11 ∷ []
 uncharge-added i bytes = refl
 
-pub remove-added : (i : ℕ) → those (is-added (remove i)) ≡ marked
-remove-added i = refl
+pub remove-added : (i time : ℕ) → those (is-added (remove i time)) ≡ marked
+remove-added i time = refl
 
 pub refill-added : (i time : ℕ) → those (is-added (refill i time)) ≡ marked
 refill-added i time = refl
@@ -75,7 +75,7 @@ no-more-added (insert kind payer bytes) n h = above-15 n h
 no-more-added (create-budget parent cpu memory time) n h = above-15 n h
 no-more-added (charge-more i bytes) n h = above-15 n h
 no-more-added (uncharge i bytes) n h = rw (above-15 n h, ne-eqb n 7 (λ q. omega arith))
-no-more-added (remove i) n h = above-15 n h
+no-more-added (remove i time) n h = above-15 n h
 no-more-added (refill i time) n h = above-15 n h
 no-more-added (charge-cpu i ns time) n h = above-15 n h
 no-more-added (pays-for-anything i) n h = above-15 n h
@@ -114,7 +114,7 @@ abbrev pub frames : List Numbered
 frames =
     create 3 1 true answers 0 ∷ create-budget 1 4_000_000 8_192 0 answers 0 ∷ create-budget 1 6_000_001 0 0 answers 12 ∷ create-budget 1 6_000_000 0 0 answers 0
     ∷ create 3 3 true answers 0 ∷ create 3 3 true answers 0 ∷ create 4 3 true answers 12
-    ∷ remove 3 answers 10 ∷ remove 5 answers 0 ∷ remove 6 answers 0 ∷ remove 3 answers 0
+    ∷ remove 3 0 answers 10 ∷ remove 5 0 answers 0 ∷ remove 6 0 answers 0 ∷ remove 3 0 answers 0
     ∷ uncharge 2 4_096 answers 0 ∷ []
 
 abbrev pub renewals : List Numbered
@@ -134,7 +134,7 @@ every =
     ∷ charge-more 3 1 answers 0 ∷ charge-more 9 1 answers 7 ∷ charge-more 4 1 answers 12
     ∷ uncharge 4 64 answers 0
     ∷ pays-for-anything 2 answers 0 ∷ pays-for-anything 9 answers 0
-    ∷ remove 9 answers 7 ∷ remove 1 answers 9 ∷ remove 2 answers 10 ∷ remove 4 answers 0 ∷ remove 2 answers 0
+    ∷ remove 9 0 answers 7 ∷ remove 1 0 answers 9 ∷ remove 2 0 answers 10 ∷ remove 4 0 answers 0 ∷ remove 2 0 answers 0
     ∷ refill 1 10_000_000 answers 0 ∷ refill 3 0 answers 7
     ∷ charge-cpu 1 10_000_000 0 answers 0 ∷ charge-cpu 3 0 0 answers 7 ∷ charge-cpu 1 1 0 answers 12
     ∷ read-account 1 answers 0 ∷ read-account 3 answers 7
@@ -190,7 +190,7 @@ which (insert kind payer bytes) = 1
 which (create-budget parent cpu memory time) = 2
 which (charge-more i bytes) = 3
 which (uncharge i bytes) = 4
-which (remove i) = 5
+which (remove i time) = 5
 which (refill i time) = 6
 which (charge-cpu i ns time) = 7
 which (pays-for-anything i) = 8
@@ -203,7 +203,7 @@ rust-numbers (insert kind payer bytes) = 0 ∷ 7 ∷ 12 ∷ []
 rust-numbers (create-budget parent cpu memory time) = 0 ∷ 7 ∷ 12 ∷ []
 rust-numbers (charge-more i bytes) = 0 ∷ 7 ∷ 12 ∷ []
 rust-numbers (uncharge i bytes) = 0 ∷ []
-rust-numbers (remove i) = 0 ∷ 7 ∷ 9 ∷ 10 ∷ []
+rust-numbers (remove i time) = 0 ∷ 7 ∷ 9 ∷ 10 ∷ []
 rust-numbers (refill i time) = 0 ∷ 7 ∷ []
 rust-numbers (charge-cpu i ns time) = 0 ∷ 7 ∷ 12 ∷ []
 rust-numbers (pays-for-anything i) = 0 ∷ []
@@ -221,7 +221,7 @@ every-call-met (insert kind payer bytes) = refl
 every-call-met (create-budget parent cpu memory time) = refl
 every-call-met (charge-more i bytes) = refl
 every-call-met (uncharge i bytes) = refl
-every-call-met (remove i) = refl
+every-call-met (remove i time) = refl
 every-call-met (refill i time) = refl
 every-call-met (charge-cpu i ns time) = refl
 every-call-met (pays-for-anything i) = refl

@@ -96,7 +96,7 @@ leaves (charge-more i bytes) r = kept (charge-more i bytes) r (λ n. refl)
     (ask 7 (has r i) r (omega arith) (ask 12 (leb bytes (account.free (account-of r (payer-of r i)))) r (omega arith) (accepted r _ refl)))
 leaves (uncharge i bytes) r = kept (uncharge i bytes) r (λ n. refl)
     (ask 7 (has r i) r (omega arith) (ask 11 (leb bytes (entry r i .charge)) r (omega arith) (accepted r _ refl)))
-leaves (remove i) r = kept (remove i) r (λ n. refl)
+leaves (remove i time) r = kept (remove i time) r (λ n. refl)
     (ask 7 (has r i) r (omega arith) (ask 9 (not (eqb i 1)) r (omega arith) (ask 10 (not (is-budget r i && pays-for r i)) r (omega arith)
     (ask 15 (not (is-budget r i) || account.returnable (account-of r (payer-of r i)) (account-of r i)) r (omega arith) (accepted r _ refl)))))
 leaves (refill i time) r = kept (refill i time) r (λ n. refl) (ask 7 (is-budget r i) r (omega arith) (accepted r _ refl))
@@ -112,7 +112,7 @@ one-renews-not (insert kind payer bytes) r = refl
 one-renews-not (create-budget parent cpu memory time) r = refl
 one-renews-not (charge-more i bytes) r = refl
 one-renews-not (uncharge i bytes) r = refl
-one-renews-not (remove i) r = refl
+one-renews-not (remove i time) r = refl
 one-renews-not (refill i time) r = refl
 one-renews-not (charge-cpu i ns time) r = refl
 one-renews-not (pays-for-anything i) r = refl

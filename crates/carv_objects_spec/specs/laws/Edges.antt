@@ -68,7 +68,7 @@ full = create 3 3 true (create 3 3 true (second .after) .after) .after
 
 -- "With both Frames gone"
 empty : Registry
-empty = remove 6 (remove 5 full .after) .after
+empty = remove 6 0 (remove 5 0 full .after) .after
 
 -- 300,000 ns left of a root with this memory
 low : ℕ → Registry
@@ -87,9 +87,9 @@ edges =
     ∷ (has full 5 && has full 6 && reads full 3 0 4_000_000 0 8_192 0)
     ∷ refused 12 (create 4 3 true full)
     -- "Removing 3 meanwhile: 10. With both Frames gone: accepted, root CPU left unchanged", after the second carve-out and without it
-    ∷ refused 10 (remove 3 full)
-    ∷ (accepted (remove 3 empty) && reads (remove 3 empty .after) 1 0 0 6_000_000 4_224 0)
-    ∷ (accepted (remove 3 (carve .after)) && reads (remove 3 (carve .after) .after) 1 0 6_000_000 0 4_096 0)
+    ∷ refused 10 (remove 3 0 full)
+    ∷ (accepted (remove 3 0 empty) && reads (remove 3 0 empty .after) 1 0 0 6_000_000 4_224 0)
+    ∷ (accepted (remove 3 0 (carve .after)) && reads (remove 3 0 (carve .after) .after) 1 0 6_000_000 0 4_096 0)
     -- "Start 0: at 9,999,999 no renewal; at 25,000,000 start is 20,000,000"
     ∷ (accepted (refill 1 9_999_999 (low 1_000_000)) && not (is-renewal (refill 1 9_999_999 (low 1_000_000) .value)) && reads (refill 1 9_999_999 (low 1_000_000) .after) 1 0 300_000 0 0 0)
     ∷ (is-renewal (refill 1 25_000_000 (low 1_000_000) .value) && reads (refill 1 25_000_000 (low 1_000_000) .after) 1 20_000_000 10_000_000 0 0 0)
@@ -162,12 +162,12 @@ full-is : full ≡ around 7 8_192 (object 5 3 ∷ object 6 3 ∷ [])
 unfolding full
 full-is = ap (λ (r : Registry). create 3 3 true r .after) one-is
 
-left-is : remove 5 full .after ≡ around 7 4_096 (object 6 3 ∷ [])
-left-is = ap (λ (r : Registry). remove 5 r .after) full-is
+left-is : remove 5 0 full .after ≡ around 7 4_096 (object 6 3 ∷ [])
+left-is = ap (λ (r : Registry). remove 5 0 r .after) full-is
 
 empty-is : empty ≡ around 7 0 []
 unfolding empty
-empty-is = ap (λ (r : Registry). remove 6 r .after) left-is
+empty-is = ap (λ (r : Registry). remove 6 0 r .after) left-is
 
 low-is : (memory : ℕ) → low memory ≡ registry 2 (budget 1 0 10_000_000 memory 300_000 0 0 0 ∷ [])
 unfolding low due renew

@@ -17,7 +17,7 @@ use Rattle.carv_budget.specs.laws.Account as account-laws
 use Rattle.carv_objects_spec.specs.declared.Entry.{Entry}
 use Rattle.carv_objects_spec.specs.laws.Asked.{asked}
 use Rattle.carv_objects_spec.specs.Registry as registry
-use Rattle.carv_objects_spec.specs.Registry.{Registry, RegistryReply, or-missing, is-budget, account-of, has, on-account, budget, object, add, drop, plain, carved, bytes-of}
+use Rattle.carv_objects_spec.specs.Registry.{Registry, RegistryReply, or-missing, is-budget, account-of, has, on-account, budget, renew-if, object, add, drop, plain, carved, bytes-of}
 use Rattle.carv_objects_spec.specs.laws.SoundFacts.{Sound}
 use Rattle.carv_objects_spec.specs.laws.Steps.{BudgetEntry, ObjectEntry, at-on-account, added}
 use Rattle.carv_objects_spec.specs.laws.Kept as calls
@@ -131,6 +131,10 @@ renew-agrees a b t h g =
       cpu-reserved = g .cpu-reserved;
       left = g .left;
     })))
+
+pub renew-if-agrees : (c : Bool) (a : Account) (b : Budget) (t : ℕ) → account.sound a ≡ true → Agrees a b → Agrees (renew-if c t a) (book.renew-if c t b)
+renew-if-agrees true a b t h g = renew-agrees a b t h g
+renew-if-agrees false a b t h g = g
 
 pub charge-agrees : (a : Account) (b : Budget) (n : ℕ) → Agrees a b → Agrees (account.charge a n) (book.charge n b)
 charge-agrees a b n g = record {
@@ -411,19 +415,28 @@ module _ (r : Registry) (k : Book) (s : Sound r) (F : FollowsRegistry r k) where
       let within = charge-within r i e y s O in
       both-follow i e y O (λ a. account.credit a n) (book.credit n) (λ c. c - n) (λ b g. credit-agrees (y .account) b n (omega arith) g)
 
-  remove-follows : (i : ℕ) → Written (remove i) k (run (remove i) r)
-  remove-follows i =
-      calls.remove-cases (Written (remove i) k) i r s (λ q h h′. rw h (test (eqb q 12) (λ a. rw a F) (λ a. rw a F)))
+  remove-follows : (i t : ℕ) → Written (remove i t) k (run (remove i t) r)
+  remove-follows i t =
+      calls.remove-cases (Written (remove i t) k) i t r s (λ q h h′. rw h (test (eqb q 12) (λ a. rw a F) (λ a. rw a F)))
       λ e y O not-root u.
       let (o, there, m) = object-page r k F i e (O .here) in
       let low = s .each i e (O .here) .lower not-root in
       let still = Table.at-erase-other (r .rows) i (e .payer) (λ q. omega arith) ∙ O .payer .here in
-      rw (ap book.or-no-object there, ← m .payer, ← m .charge)
+      let live : is-live k i ≡ eqb (e .kind) 6 = live-same r k F i ∙ ap (λ (x : Entry). eqb (x .kind) 6) (O .read) in
+      let b = eqb (e .kind) 6 in
+      let y-sound = calls.budget-sound s (O .payer) in
+      let renewed = calls.renew-if-moves b (y .account) t y-sound in
+      let within = limits-within r i e y s O not-root in
+      let charged = charge-within r i e y s O in
+      rw (ap book.or-no-object there, ← m .payer, ← m .charge, live)
       (follow-account (drop i r) (book.remove-object i k) (follow-remove r k F (s .rising) i) (e .payer) y
       (record { here = still; kind = O .payer .kind; read = ap or-missing still })
-      (release e) (λ b. book.credit (e .charge) (book.return (budget-of k i) b)) λ b g.
-      credit-agrees (account.return (y .account) (e .account)) (book.return (budget-of k i) b) (e .charge) (charge-within r i e y s O)
-      (return-agrees (y .account) (e .account) b (budget-of k i) (limits-within r i e y s O not-root) (limits-same r k s F i e (O .here)) g))
+      (release e t) (λ x. book.credit (e .charge) (book.return (budget-of k i) (book.renew-if b t x))) λ x g.
+      credit-agrees (account.return (renew-if b t (y .account)) (e .account)) (book.return (budget-of k i) (book.renew-if b t x)) (e .charge)
+      (omega (arith, renewed .used))
+      (return-agrees (renew-if b t (y .account)) (e .account) (book.renew-if b t x) (budget-of k i)
+      (record { memory = omega (arith, renewed .memory-reserved, within .memory); cpu = omega (arith, renewed .cpu-reserved, within .cpu) })
+      (limits-same r k s F i e (O .here)) (renew-if-agrees b (y .account) x t y-sound g)))
 
 pub write-follows : (c : Call) (r : Registry) (k : Book) → Sound r → FollowsRegistry r k → FollowsRegistry (run c r .after) (write c (run c r .number) k)
 write-follows (create kind payer backing) r k s F = create-follows r k s F kind payer backing
@@ -431,7 +444,7 @@ write-follows (insert kind payer n) r k s F = insert-follows r k s F kind payer 
 write-follows (create-budget parent cpu memory t) r k s F = create-budget-follows r k s F parent cpu memory t
 write-follows (charge-more i n) r k s F = charge-more-follows r k s F i n
 write-follows (uncharge i n) r k s F = uncharge-follows r k s F i n
-write-follows (remove i) r k s F = remove-follows r k s F i
+write-follows (remove i t) r k s F = remove-follows r k s F i t
 write-follows (refill i t) r k s F = refill-follows r k s F i t
 write-follows (charge-cpu i ns t) r k s F = charge-cpu-follows r k s F i ns t
 write-follows (pays-for-anything i) r k s F = F
@@ -444,7 +457,7 @@ kept (insert kind payer n) r s = calls.insert-kept kind payer n r s
 kept (create-budget parent cpu memory t) r s = calls.create-budget-kept parent cpu memory t r s
 kept (charge-more i n) r s = calls.charge-more-kept i n r s
 kept (uncharge i n) r s = calls.uncharge-kept i n r s
-kept (remove i) r s = calls.remove-kept i r s
+kept (remove i t) r s = calls.remove-kept i t r s
 kept (refill i t) r s = calls.refill-kept i t r s
 kept (charge-cpu i ns t) r s = calls.charge-cpu-kept i ns t r s
 kept (pays-for-anything i) r s = s

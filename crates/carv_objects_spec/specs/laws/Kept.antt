@@ -18,7 +18,7 @@ use Rattle.carv_budget.specs.laws.Account as account-laws
 use Rattle.carv_objects_spec.specs.declared.Entry.{Entry}
 use Rattle.carv_objects_spec.specs.Reply.{refuse, accept, id, renewed}
 use Rattle.carv_objects_spec.specs.laws.Asked.{asked}
-use Rattle.carv_objects_spec.specs.Registry.{Registry, RegistryReply, or-missing, entry, has, is-budget, account-of, payer-of, pays-in, pays-for, budget, listed, bytes-of, creatable, needs-backing, has-place, has-next, plain, carved, opening, create, insert, create-budget, charge-more, uncharge, remove, refill, charge-cpu, charge-most}
+use Rattle.carv_objects_spec.specs.Registry.{Registry, RegistryReply, or-missing, entry, has, is-budget, account-of, payer-of, pays-in, pays-for, budget, renew-if, listed, bytes-of, creatable, needs-backing, has-place, has-next, plain, carved, opening, create, insert, create-budget, charge-more, uncharge, remove, refill, charge-cpu, charge-most}
 use Rattle.carv_objects_spec.specs.Sound.{kind-at, charge-by, memory-by, cpu-by}
 use Rattle.carv_objects_spec.specs.laws.SoundFacts.{SoundEntry, Sound}
 use Rattle.carv_objects_spec.specs.laws.SoundLaws.{account-sound}
@@ -74,8 +74,8 @@ limits-within r i e y s O not-root =
 abbrev pub carve : (cpu memory time : ℕ) → Account → Account
 carve cpu memory time a = reserve (charge (renew a time) 128) cpu memory
 
-abbrev pub release : Entry → Account → Account
-release e a = credit (return a (e .account)) (e .charge)
+abbrev pub release : Entry → (time : ℕ) → Account → Account
+release e time a = credit (return (renew-if (eqb (e .kind) 6) time a) (e .account)) (e .charge)
 
 renew-moves : (a : Account) (t : ℕ) → account.sound a ≡ true → AccountMoves (λ a. renew a t) a zeros zeros
 renew-moves a t h =
@@ -88,6 +88,11 @@ renew-moves a t h =
       cpu-reserved = omega arith;
       sound = account-laws.renew-sound a t h;
     }
+
+-- the same where the test holds
+pub renew-if-moves : (b : Bool) (a : Account) (t : ℕ) → account.sound a ≡ true → AccountMoves (renew-if b t) a zeros zeros
+renew-if-moves true a t h = renew-moves a t h
+renew-if-moves false a t h = record { allowance = λ b. refl; limit = λ b. refl; used = refl; memory-reserved = refl; cpu-reserved = refl; sound = h }
 
 -- CPU time, by what the account has
 spend-moves : (a : Account) (ns : Account → ℕ) (t : ℕ) → account.sound a ≡ true → AccountMoves (λ a. spend (renew a t) (ns a)) a zeros zeros
@@ -369,10 +374,10 @@ removal-returnable r i s not-root h k =
     )
 
 -- of a sound registry, `remove` answers 0, 7, 9 or 10
-pub remove-cases : (P : RegistryReply → Type 0) (i : ℕ) (r : Registry) → Sound r → StaysBut 15 P r
-    → ((e y : Entry) → ObjectEntry r i e y → (i ≡ 1 → ⊥) → Unpaid r i → P (accept none (removed r i e (release e))))
-    → P (remove i r)
-remove-cases P i r s stay go =
+pub remove-cases : (P : RegistryReply → Type 0) (i t : ℕ) (r : Registry) → Sound r → StaysBut 15 P r
+    → ((e y : Entry) → ObjectEntry r i e y → (i ≡ 1 → ⊥) → Unpaid r i → P (accept none (removed r i e (release e t))))
+    → P (remove i t r)
+remove-cases P i t r s stay go =
     asked P (has r i) (stay 7 refl refl) λ a.
     asked P (not (eqb i 1)) (stay 9 refl refl) λ b.
     asked P (not (is-budget r i && pays-for r i)) (stay 10 refl refl) λ c.
@@ -382,24 +387,25 @@ remove-cases P i r s stay go =
     (λ h. rw h (removal-returnable r i s not-root h (rw h at idle) .0))
     (λ h. rw h) in
     let (e, y, O) = live-object r i s a in
-    rw d (subst (λ (x : Entry). P (accept none (removed r i x (release x)))) (sym (O .read)) (go e y O not-root (unpaid r i s not-root idle)))
+    rw d (subst (λ (x : Entry). P (accept none (removed r i x (release x t)))) (sym (O .read)) (go e y O not-root (unpaid r i s not-root idle)))
 
-pub remove-not-15 : (i : ℕ) (r : Registry) → Sound r → eqb (remove i r .number) 15 ≡ false
-remove-not-15 i r s = remove-cases (λ a. eqb (a .number) 15 ≡ false) i r s (λ q h k. k) λ e y O not-root u. refl
+pub remove-not-15 : (i t : ℕ) (r : Registry) → Sound r → eqb (remove i t r .number) 15 ≡ false
+remove-not-15 i t r s = remove-cases (λ a. eqb (a .number) 15 ≡ false) i t r s (λ q h k. k) λ e y O not-root u. refl
 
-pub remove-kept : (i : ℕ) (r : Registry) → Sound r → Sound (remove i r .after)
-remove-kept i r s =
-    remove-cases (λ a. Sound (a .after)) i r s (λ q h k. s) λ e y O not-root u.
+pub remove-kept : (i t : ℕ) (r : Registry) → Sound r → Sound (remove i t r .after)
+remove-kept i t r s =
+    remove-cases (λ a. Sound (a .after)) i t r s (λ q h k. s) λ e y O not-root u.
     let k = charge-within r i e y s O in
     let w = limits-within r i e y s O not-root in
-    remove-step r i e y (release e) s O not-root u (record {
-      allowance = λ b. refl;
-      limit = λ b. refl;
-      used = omega arith;
-      memory-reserved = omega arith;
-      cpu-reserved = omega arith;
-      sound = account-laws.credit-sound (return (y .account) (e .account)) (e .charge)
-          (account-laws.return-sound (y .account) (e .account) (budget-sound s (O .payer)));
+    let m = renew-if-moves (eqb (e .kind) 6) (y .account) t (budget-sound s (O .payer)) in
+    remove-step r i e y (release e t) s O not-root u (record {
+      allowance = m .allowance;
+      limit = m .limit;
+      used = omega (arith, m .used);
+      memory-reserved = omega (arith, m .memory-reserved);
+      cpu-reserved = omega (arith, m .cpu-reserved);
+      sound = account-laws.credit-sound (return (renew-if (eqb (e .kind) 6) t (y .account)) (e .account)) (e .charge)
+          (account-laws.return-sound (renew-if (eqb (e .kind) 6) t (y .account)) (e .account) (m .sound));
     })
 
 pub opening-sound : (cpu memory : ℕ) → cpu ≤ period → Sound (opening cpu memory)

@@ -93,17 +93,17 @@ pub record Limits : Type 0 where
   pub next : (r : Registry) → r .next < 18_446_744_073_709_551_615 → has-next r ≡ true
   pub no-next : (r : Registry) → 18_446_744_073_709_551_615 ≤ r .next → has-next r ≡ false
   -- "7. Do the object, payer .. exist, and is the payer, or the account to be read, renewed or charged CPU, a budget?" Of id 9, and of a Frame, id 2
-  pub missing : numbers (create 5 9 true root ∷ insert 5 9 0 root ∷ create-budget 9 0 0 0 root ∷ charge-more 9 0 root ∷ uncharge 9 0 root ∷ remove 9 root
+  pub missing : numbers (create 5 9 true root ∷ insert 5 9 0 root ∷ create-budget 9 0 0 0 root ∷ charge-more 9 0 root ∷ uncharge 9 0 root ∷ remove 9 0 root
       ∷ refill 9 0 root ∷ charge-cpu 9 0 0 root ∷ read-account 9 root ∷ charge-of 9 root ∷ [])
       ≡ 7 ∷ 7 ∷ 7 ∷ 7 ∷ 7 ∷ 7 ∷ 7 ∷ 7 ∷ 7 ∷ 7 ∷ []
-  pub no-budget : numbers (create 5 2 true framed ∷ insert 5 2 0 framed ∷ create-budget 2 0 0 0 framed ∷ charge-more 2 0 framed ∷ uncharge 2 0 framed ∷ remove 2 framed
+  pub no-budget : numbers (create 5 2 true framed ∷ insert 5 2 0 framed ∷ create-budget 2 0 0 0 framed ∷ charge-more 2 0 framed ∷ uncharge 2 0 framed ∷ remove 2 0 framed
       ∷ refill 2 0 framed ∷ charge-cpu 2 0 0 framed ∷ read-account 2 framed ∷ charge-of 2 framed ∷ [])
       ≡ 7 ∷ 7 ∷ 7 ∷ 0 ∷ 0 ∷ 0 ∷ 7 ∷ 7 ∷ 7 ∷ 0 ∷ []
   -- "For a missing id `pays_for_anything` .. say no"; the root pays for the Frame, but not for itself
   pub pays-for-it : (pays-for-anything 9 framed .value ≡ some (pays false)) × (pays-for-anything 1 framed .value ≡ some (pays true))
       × (pays-for-anything 1 root .value ≡ some (pays false)) × (pays-for-anything 2 framed .value ≡ some (pays false))
   -- "9. Is the removed object not the root?"
-  pub root-stays : remove 1 root .number ≡ 9
+  pub root-stays : remove 1 0 root .number ≡ 9
   -- "11. Is an uncharge at most the recorded charge?" "12. Can the payer cover the charge?": of a Frame, and at the root's limit
   pub charges : numbers (uncharge 2 4_096 framed ∷ uncharge 2 4_097 framed ∷ charge-more 2 995_904 framed ∷ charge-more 2 995_905 framed ∷ insert 1 1 995_904 framed
       ∷ insert 1 1 995_905 framed ∷ charge-cpu 1 10_000_000 0 framed ∷ charge-cpu 1 10_000_001 0 framed ∷ [])

@@ -43,9 +43,14 @@ pub record PanicCases : Type 0 where
   pub charge-more-is : (checks (charge-more 2 100) 3 carved ≡ sum 4_224 100 ∷ expect true ∷ sum 4_096 100 ∷ [])
       × (checks (charge-more 2 1_000_000) 3 carved ≡ []) × (checks (charge-more 9 100) 3 carved ≡ [])
   pub uncharge-is : (checks (uncharge 2 100) 3 carved ≡ difference 4_224 100 ∷ []) × (checks (uncharge 2 4_225) 3 carved ≡ []) × (checks (uncharge 9 100) 3 carved ≡ [])
-  -- a budget, an object, the root, a missing id
-  pub remove-is : (checks (remove 3) 3 carved ≡ expect true ∷ difference 4_000_000 4_000_000 ∷ difference 8_192 8_192 ∷ difference 4_224 128 ∷ [])
-      × (checks (remove 2) 3 carved ≡ expect true ∷ difference 4_224 4_096 ∷ []) × (checks (remove 1) 3 carved ≡ []) × (checks (remove 9) 3 carved ≡ [])
+  -- a budget with its payer due and not due, one that pays for a Frame, an object, the root, a missing id
+  pub remove-is : (checks (remove 3 25_000_000) 3 carved
+      ≡ expect true ∷ difference 25_000_000 0 ∷ remainder 25_000_000 10_000_000 ∷ difference 25_000_000 5_000_000 ∷ difference 10_000_000 4_000_000
+      ∷ difference 4_000_000 4_000_000 ∷ difference 8_192 8_192 ∷ difference 4_224 128 ∷ [])
+      × (checks (remove 3 9_999_999) 3 carved ≡ expect true ∷ difference 9_999_999 0 ∷ difference 4_000_000 4_000_000 ∷ difference 8_192 8_192 ∷ difference 4_224 128 ∷ [])
+      × (checks (remove 3 25_000_000) 3 (r01.create 3 3 true carved .after) ≡ [])
+      × (checks (remove 2 25_000_000) 3 carved ≡ expect true ∷ difference 4_224 4_096 ∷ [])
+      × (checks (remove 1 25_000_000) 3 carved ≡ []) × (checks (remove 9 25_000_000) 3 carved ≡ [])
   pub refill-is : (checks (refill 1 25_000_000) 3 carved
       ≡ difference 25_000_000 0 ∷ remainder 25_000_000 10_000_000 ∷ difference 25_000_000 5_000_000 ∷ difference 10_000_000 4_000_000 ∷ [])
       × (checks (refill 1 9_999_999) 3 carved ≡ difference 9_999_999 0 ∷ []) × (checks (refill 2 25_000_000) 3 carved ≡ [])
@@ -57,7 +62,7 @@ pub record PanicCases : Type 0 where
   pub new-is : (panics.new 1 10_000_000 1_000_000 ≡ expect true ∷ expect true ∷ []) × (panics.new 1 10_000_001 1_000_000 ≡ expect false ∷ [])
   -- a budget made takes one of the counter; one refused, an object made, and a call on the next id do not
   pub counter : (ids-after (create-budget 1 1_000_000 1_000 0) 3 carved ≡ 4) × (ids-after (create-budget 1 6_000_001 1_000 0) 3 carved ≡ 3)
-      × (ids-after (create 3 1 true) 3 carved ≡ 3) × (ids-after (remove 4) 3 carved ≡ 3)
+      × (ids-after (create 3 1 true) 3 carved ≡ 3) × (ids-after (remove 4 0) 3 carved ≡ 3)
   -- a list panics where a call of it does, the first or a later one
   pub lists : (NoPanics (insert 5 1 0 ∷ []) 2 last → ⊥) × (NoPanics (read-account 1 ∷ insert 5 1 0 ∷ []) 2 last → ⊥)
 
@@ -70,7 +75,7 @@ panic-cases-hold = record {
   create-budget-is = (refl, refl, refl, refl);
   charge-more-is = (refl, refl, refl);
   uncharge-is = (refl, refl, refl);
-  remove-is = (refl, refl, refl, refl);
+  remove-is = (refl, refl, refl, refl, refl, refl);
   refill-is = (refl, refl, refl);
   charge-cpu-is = (refl, refl, refl);
   readings = (refl, refl, refl);

@@ -3,7 +3,7 @@
 use mathlib.Core.Path.{_≡_, refl, _∙_, ap, subst}
 use mathlib.Core.Bool.{Bool, true, false, cond, not, _&&_, false≢true}
 use mathlib.Core.Option.{Option, none, some}
-use mathlib.Core.List.{List, [], _∷_}
+use mathlib.Core.List.{List, [], _∷_, _++_}
 use Prim.Native.Nat.{ℕ, zero, suc, _+_, _-_, _^_, _≤_, _<_}
 use native.Mathlib.Omega.{arith}
 use native.Mathlib.Nat.{add-sub-cancel}
@@ -206,15 +206,20 @@ module _ (r : Registry) (s : Sound r) (w : account-of r 1 .«memory_limit» < 2 
   uncharge-passes : (i n : ℕ) → AllPass (panics.uncharge i n r)
   uncharge-passes i n = some-pass (rust.get i r) _ λ e here. credit-passes (e .payer) n _
 
-  remove-passes : (i : ℕ) → AllPass (panics.remove i r)
-  remove-passes i = picks AllPass (eqb i 1) _ _ (λ _. tt) λ _.
+  remove-passes : (i now : ℕ) → AllPass (panics.remove i now r)
+  remove-passes i now = picks AllPass (eqb i 1) _ _ (λ _. tt) λ d.
       some-pass (rust.get i r) _ λ e here.
+      let low = s .each i e here .lower (eqb-false i 1 d) in
+      let other = Table.at-erase-other (r .rows) i (e .payer) (λ h. omega arith) in
       picks AllPass (rust.is-budget e && rust.pays-for-anything i r) _ _ (λ _. tt) λ _. (
         ap panics.is-some here,
         picks AllPass (rust.is-budget e) _ _
             (λ _. some-pass (rust.budget-mut (e .payer) (rust.remove-entry i r)) _ λ a q.
-            both-pass (budget-panics.release-child true a (e .account)) _ (budget-laws.release-child-passes a (e .account))
-            (ok-pass (budget.release-child true a (e .account) .result) _ (credit-passes (e .payer) (e .charge) _)))
+            let renewed = budget.refill a now .self in
+            both-pass (budget-panics.refill a now ++ budget-panics.release-child true renewed (e .account)) _
+            (both-pass (budget-panics.refill a now) _ (budget-laws.refill-passes a now (good-payer (e .payer) a (rw other at q) .sound))
+            (budget-laws.release-child-passes renewed (e .account)))
+            (ok-pass (budget.release-child true renewed (e .account) .result) _ (credit-passes (e .payer) (e .charge) _)))
             (λ _. credit-passes (e .payer) (e .charge) (rust.remove-entry i r)),
       )
 
@@ -254,7 +259,7 @@ call-passes (create-budget parent cpu memory time) ids r s f h =
     create-budget-passes r s (f .limit) ids parent cpu memory time (omega (arith, f .counter)) n
 call-passes (charge-more i bytes) ids r s f h = charge-more-passes r s (f .limit) i bytes
 call-passes (uncharge i bytes) ids r s f h = uncharge-passes r s (f .limit) i bytes
-call-passes (remove i) ids r s f h = remove-passes r s (f .limit) i
+call-passes (remove i time) ids r s f h = remove-passes r s (f .limit) i time
 call-passes (refill i time) ids r s f h = refill-passes r s (f .limit) i time
 call-passes (charge-cpu i ns time) ids r s f h = charge-cpu-passes r s (f .limit) i ns time
 call-passes (pays-for-anything i) ids r s f h = tt
@@ -325,8 +330,9 @@ onward (charge-more i bytes) r s =
     calls.charge-more-cases (λ a. Onward r (a .after)) i bytes r s (λ _ _. stays r) λ e y _ _. charged-onward r s i e _ _ (λ _. refl)
 onward (uncharge i bytes) r s =
     calls.uncharge-cases (λ a. Onward r (a .after)) i bytes r s (λ _ _. stays r) λ e y _ _. charged-onward r s i e _ _ (λ _. refl)
-onward (remove i) r s =
-    calls.remove-cases (λ a. Onward r (a .after)) i r s (λ _ _ _. stays r) λ e y _ not-root _. removed-onward r s i e _ not-root (λ _. refl)
+onward (remove i time) r s =
+    calls.remove-cases (λ a. Onward r (a .after)) i time r s (λ _ _ _. stays r) λ e y O not-root _.
+    removed-onward r s i e _ not-root (calls.renew-if-moves (eqb (e .kind) 6) (y .account) time (calls.budget-sound s (O .payer)) .limit)
 onward (refill i time) r s =
     calls.refill-cases (λ a. Onward r (a .after)) i time r (λ _ _. stays r) λ e B. account-onward r i _ (λ a. renew-limit a time)
 onward (charge-cpu i ns time) r s =

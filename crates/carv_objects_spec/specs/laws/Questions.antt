@@ -112,27 +112,27 @@ module _ (i bytes : ℕ) (r : Registry) where
         → uncharge i bytes r ≡ accept none (object i (λ c. c - bytes) (budget (payer-of r i) (λ a. account.credit a bytes) r))
     uncharge-done b = rw (a, b)
 
-module _ (i : ℕ) (r : Registry) where
-  pub remove-missing : has r i ≡ false → remove i r ≡ refuse 7 r
+module _ (i time : ℕ) (r : Registry) where
+  pub remove-missing : has r i ≡ false → remove i time r ≡ refuse 7 r
   remove-missing a = rw a
 
   module _ (a : has r i ≡ true) where
-    pub remove-root : i ≡ 1 → remove i r ≡ refuse 9 r
+    pub remove-root : i ≡ 1 → remove i time r ≡ refuse 9 r
     remove-root b = rw (a, eq-eqb i 1 b)
 
     module _ (b : i ≡ 1 → ⊥) where
-      pub remove-paying : is-budget r i ≡ true → pays-for r i ≡ true → remove i r ≡ refuse 10 r
+      pub remove-paying : is-budget r i ≡ true → pays-for r i ≡ true → remove i time r ≡ refuse 10 r
       remove-paying c d = rw (a, ne-eqb i 1 b, c, d)
 
-      pub remove-kept : is-budget r i ≡ true → pays-for r i ≡ false → account.returnable (account-of r (payer-of r i)) (account-of r i) ≡ false → remove i r ≡ refuse 15 r
+      pub remove-kept : is-budget r i ≡ true → pays-for r i ≡ false → account.returnable (account-of r (payer-of r i)) (account-of r i) ≡ false → remove i time r ≡ refuse 15 r
       remove-kept c d e = rw (a, ne-eqb i 1 b, c, d, e)
 
       pub remove-budget : is-budget r i ≡ true → pays-for r i ≡ false → account.returnable (account-of r (payer-of r i)) (account-of r i) ≡ true
-          → remove i r ≡ accept none (budget (payer-of r i) (λ a. account.credit (account.return a (account-of r i)) (entry r i .charge)) (drop i r))
+          → remove i time r ≡ accept none (budget (payer-of r i) (λ a. account.credit (account.return (account.renew a time) (account-of r i)) (entry r i .charge)) (drop i r))
       remove-budget c d e = rw (a, ne-eqb i 1 b, c, d, e)
 
       pub remove-object : is-budget r i ≡ false
-          → remove i r ≡ accept none (budget (payer-of r i) (λ a. account.credit (account.return a (account-of r i)) (entry r i .charge)) (drop i r))
+          → remove i time r ≡ accept none (budget (payer-of r i) (λ a. account.credit (account.return a (account-of r i)) (entry r i .charge)) (drop i r))
       remove-object c = rw (a, ne-eqb i 1 b, c)
 
 module _ (i time : ℕ) (r : Registry) where

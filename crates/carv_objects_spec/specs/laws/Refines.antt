@@ -4,17 +4,18 @@ use mathlib.Core.Path.{_≡_, refl, sym, ap, _∙_}
 use mathlib.Core.Bool.{Bool, true, false, cond, not, _&&_, _||_}
 use mathlib.Core.Option.{Option, none, some}
 use mathlib.Core.List.{List, [], _∷_, _++_}
-use Prim.Native.Nat.{ℕ, suc, _+_, _-_, _≤_, _<_}
+use Prim.Native.Nat.{ℕ, suc, _+_, _-_, _≤_}
 use native.Mathlib.Omega.{arith}
 use native.Mathlib.Numerals.{add-one}
 use native.Mathlib.Nat.{add-sub-cancel, sub-zero}
 use lib.Dec.{eqb, leb}
-use borrow.Author.Tests.{eqb-true, eqb-false, eq-eqb, ne-eqb, leb-true, leb-false, le-leb, lt-ltb, le-ltb}
+use borrow.Author.Tests.{eqb-true, eqb-false, eq-eqb, ne-eqb, leb-true, le-leb, le-ltb}
 use Rattle.carv_area.specs.Table.{Row, at, alter, erase, put, total, Rising}
-use Rattle.carv_area.specs.laws.Table.{test, at-alter, at-below, at-erase-other, rising-le, rising-alter, total-at}
+use Rattle.carv_area.specs.laws.Table.{test, at-alter, at-alter-other, at-erase-other, rising-le, rising-alter, total-at}
 use Rattle.carv_budget.specs.declared.Account.{Account}
 use Rattle.carv_budget.specs.Account as account
 use Rattle.carv_budget.specs.Rust as budget
+use Rattle.carv_budget.specs.laws.Account.{renewal, renew-not-due, returnable-renewed}
 use Rattle.carv_budget.specs.laws.Refines.{refill-renews, charge-memory-by, release-memory-by, charge-cpu-by, carve-out-by, release-child-by, renew-charged}
 use Rattle.carv_objects_spec.specs.declared.Entry.{Entry}
 use Rattle.carv_objects_spec.specs.Reply.{refuse, accept, Value, id, pays, of-account, charge}
@@ -26,6 +27,8 @@ use Rattle.carv_objects_spec.specs.Refused.{added, added-to-uncharge}
 use Rattle.carv_objects_spec.specs.Rust.{Call}
 use Rattle.carv_objects_spec.specs.Sound.{charge-by}
 use Rattle.carv_objects_spec.specs.laws.SoundFacts.{Sound}
+use Rattle.carv_objects_spec.specs.laws.Kept.{removal-returnable}
+use Rattle.carv_objects_spec.specs.laws.Questions as asks
 
 -- Tables.
 
@@ -60,28 +63,21 @@ module _ {A : Type 0} where
       (λ d. let w = eqb-true (r .id) j d in rw (e, d, rw w at e))
       (λ d. rw (e, d, e) (ap (_∷_ r) (alter-swap m i j f g h))))
 
-  -- a row after the last, one before the first, and one back in its place
+  -- an alteration and the removal of another id commute
+  pub erase-alter : (m : List (Row A)) (i p : ℕ) (f : A → A) → (i ≡ p → ⊥) → erase i (alter p f m) ≡ alter p f (erase i m)
+  erase-alter [] i p f h = refl
+  erase-alter (r ∷ m) i p f h = test (eqb (r .id) i)
+      (λ e. rw (ne-eqb (r .id) p (λ q. h (sym (eqb-true (r .id) i e) ∙ q)), e))
+      (λ e. test (eqb (r .id) p)
+      (λ d. rw (e, d, ne-eqb p i (λ q. h (sym q))))
+      (λ d. rw (e, d, e) (ap (_∷_ r) (erase-alter m i p f h))))
+
+  -- a row after the last
   put-last : (m : List (Row A)) (l n i : ℕ) (a : A) → Rising l n m → n ≤ i → put i a m ≡ m ++ (record { id = i; it = a } ∷ [])
   put-last [] l n i a u h = refl
   put-last (r ∷ m) l n i a u h =
       let k = rising-le m (suc (r .id)) n (u .1) in
       rw (ne-eqb (r .id) i (λ q. omega arith), le-ltb i (r .id) (omega arith)) (ap (_∷_ r) (put-last m (suc (r .id)) n i a (u .1) h))
-
-  pub put-first : (m : List (Row A)) (l n i : ℕ) (a : A) → Rising l n m → i < l → put i a m ≡ record { id = i; it = a } ∷ m
-  put-first [] l n i a u h = refl
-  put-first (r ∷ m) l n i a u h = let k = u .0 in rw (ne-eqb (r .id) i (λ q. omega arith), lt-ltb i (r .id) (omega arith))
-
-  pub put-erase : (m : List (Row A)) (l n i : ℕ) (a : A) → Rising l n m → at m i ≡ some a → put i a (erase i m) ≡ m
-  put-erase [] l n i a u h = cc
-  put-erase (r ∷ m) l n i a u h = test (eqb (r .id) i)
-      (λ e. let q = eqb-true (r .id) i e in let h′ : some (r .it) ≡ some a = rw e at h in let x : r .it ≡ a = cc in
-      rw (e, put-first m (suc (r .id)) n i a (u .1) (omega arith), ← q, ← x))
-      (λ e. rw (e, e, le-ltb i (r .id) (after (rw e at h))) (ap (_∷_ r) (put-erase m (suc (r .id)) n i a (u .1) (rw e at h))))
-    where
-      after : at m i ≡ some a → r .id ≤ i
-      after g = test (leb (r .id) i) (λ p. leb-true (r .id) i p)
-          (λ p. let k = leb-false (r .id) i p in let z = at-below m (suc (r .id)) n i (u .1) (omega arith) in
-          let b : _≡_ {A = ℕ} 0 1 = cc in absurd (omega arith))
 
 -- Budgets. `write` is what the Rust leaves behind `budget_mut`.
 
@@ -302,47 +298,143 @@ module _ (r : Registry) (s : Sound r) (i : ℕ) (q : at (r .rows) i ≡ some (en
   kept : write payer (account-of r payer) left ≡ left
   kept = rw (← same-account) (write-same payer left still-budget)
 
-  -- `InvalidMethod` leaves the registry as it was
-  put-back : r ≡ rust.insert-entry i (entry r i) (write payer (account-of r payer) left)
-  put-back = sym (ap (rust.insert-entry i (entry r i)) kept ∙ ap (with-rows r) (put-erase (r .rows) 1 (r .next) i (entry r i) (s .rising) q))
-
-  credited : (child : Account)
-      → r01.budget payer (λ a. account.credit (account.return a child) (entry r i .charge)) left
-      ≡ rust.credit payer (entry r i .charge) (write payer (account.return (account-of r payer) child) left)
-  credited child =
+  -- f leaves the memory used: nothing, or P2's renewal
+  credited : (f : Account → Account) (child : Account) → f (account-of r payer) .«memory_used» ≡ account-of r payer .«memory_used»
+      → r01.budget payer (λ a. account.credit (account.return (f a) child) (entry r i .charge)) left
+      ≡ rust.credit payer (entry r i .charge) (write payer (account.return (f (account-of r payer)) child) left)
+  credited f child used =
       rw (
-        step-is payer left still-budget (λ a. account.credit (account.return a child) (entry r i .charge)),
+        step-is payer left still-budget (λ a. account.credit (account.return (f a) child) (entry r i .charge)),
         same-account,
         credit-written payer left still-budget,
-        released (account.return (account-of r payer) child) (entry r i .charge) (covered r s i q),
+        released (account.return (f (account-of r payer)) child) (entry r i .charge) (omega (arith, covered r s i q)),
       )
 
-  returned : cond (account.returnable (account-of r payer) (account-of r i))
-      (accept none (r01.budget payer (λ a. account.credit (account.return a (account-of r i)) (entry r i .charge)) left)) (refuse 15 r)
-      ≡ reply-of nothing 15 (rust.remove-budget (rust.budget-mut payer left) i (entry r i) left)
-  returned =
-      rw (budget-mut-is payer left, still-budget, same-account, release-child-by (account-of r payer) (account-of r i))
-      (test (account.returnable (account-of r payer) (account-of r i))
-      (λ t. rw t (ap (λ (x : Registry). accept {A = Value} none x) (credited (account-of r i))))
-      (λ t. rw t (ap (refuse {A = Value} 15) put-back)))
+  -- a child that can be returned, to the payer as it is or renewed
+  returned : (now : ℕ) → account.returnable (account-of r payer) (account-of r i) ≡ true
+      → accept none (r01.budget payer (λ a. account.credit (account.return (account.renew a now) (account-of r i)) (entry r i .charge)) left)
+      ≡ reply-of nothing 15 (rust.remove-budget (λ parent. budget.refill parent now .self) (rust.budget-mut payer left) i (entry r i) left)
+  returned now t =
+      rw (
+        budget-mut-is payer left,
+        still-budget,
+        same-account,
+        refill-renews (account-of r payer) now,
+        release-child-by (account.renew (account-of r payer) now) (account-of r i),
+        returnable-renewed (account-of r payer) (account-of r i) now,
+        t,
+      ) (ap (λ (x : Registry). accept {A = Value} none x) (credited (λ a. account.renew a now) (account-of r i) (renewal (account-of r payer) now .used)))
+
+  -- the Rust's own removal, where the payer is not due
+  not-due : (now : ℕ) → account.due (account-of r payer) now ≡ false
+      → rust.remove-budget (λ parent. budget.refill parent now .self) (rust.budget-mut payer left) i (entry r i) left
+      ≡ rust.remove-budget (λ parent. parent) (rust.budget-mut payer left) i (entry r i) left
+  not-due now w = rw (budget-mut-is payer left, still-budget, same-account, refill-renews (account-of r payer) now, ← renew-not-due (account-of r payer) now w)
 
   plain-credited : is-budget r i ≡ false
       → r01.budget payer (λ a. account.credit (account.return a (account-of r i)) (entry r i .charge)) left ≡ rust.credit payer (entry r i .charge) left
-  plain-credited b = rw (s .each i (entry r i) q .plain b) (credited account.blank ∙ rw (return-blank (account-of r payer), kept))
+  plain-credited b = rw (s .each i (entry r i) q .plain b) (credited (λ a. a) account.blank refl ∙ rw (return-blank (account-of r payer), kept))
 
 -- `pays_for_anything` is 01's
 pays-is : (i : ℕ) (m : List (Row Entry)) → r01.pays-in m i ≡ rust.any (λ e. not (eqb (e .id) i) && eqb (e .it .payer) i) m
 pays-is i [] = refl
 pays-is i (e ∷ m) = ap (λ (b : Bool). (not (eqb (e .id) i) && eqb (e .it .payer) i) || b) (pays-is i m)
 
-pub remove-rust : (i : ℕ) (r : Registry) → Sound r → r01.remove i r ≡ reply-of nothing 15 (rust.remove i r)
-remove-rust i r s = look (at (r .rows) i)
+pub remove-rust : (i time : ℕ) (r : Registry) → Sound r → r01.remove i time r ≡ reply-of nothing 15 (rust.remove i time r)
+remove-rust i time r s = look (at (r .rows) i)
     (λ q. let root : or-missing (at (r .rows) 1) .kind ≡ 6 = s .root in
     let d : eqb i 1 ≡ false = ne-eqb i 1 (λ w. let z : _≡_ {A = ℕ} 0 6 = cc in omega arith) in rw (q, d))
     λ q. rw q (test (eqb i 1) (λ d. rw d) (λ d. rw d
     (test (is-budget r i)
-    (λ b. rw (b, pays-is i (r .rows)) (test (rust.pays-for-anything i r) (λ w. rw w) (λ w. rw w (returned r s i q d))))
+    (λ b. test (r01.pays-for r i)
+    (λ w. let w′ = sym (pays-is i (r .rows)) ∙ w in rw (b, w, w′))
+    (λ w. let w′ = sym (pays-is i (r .rows)) ∙ w in
+    let t = removal-returnable r i s (eqb-false i 1 d) b w .0 in rw (b, w, w′, t) (returned r s i q d time t)))
     (λ b. rw b (ap (λ (x : Registry). accept {A = Value} none x) (plain-credited r s i q d b))))))
+
+-- P2 changes nothing else: where no budget is removed, or one whose payer is not due, that is carv-os' own removal
+remove-unrenewed-is : (i time : ℕ) (r : Registry) → Sound r
+    → (r01.remove i time r .number ≡ 0 → is-budget r i ≡ true → account.due (account-of r (payer-of r i)) time ≡ false)
+    → rust.remove i time r ≡ rust.remove-unrenewed i r
+remove-unrenewed-is i time r s h = look (at (r .rows) i) (λ q. rw q)
+    λ q. rw q (test (eqb i 1) (λ d. rw d) (λ d. rw d
+    (test (is-budget r i)
+    (λ b. test (r01.pays-for r i)
+    (λ w. let w′ = sym (pays-is i (r .rows)) ∙ w in rw (b, w′))
+    (λ w. let w′ = sym (pays-is i (r .rows)) ∙ w in
+    let t = removal-returnable r i s (eqb-false i 1 d) b w .0 in
+    let accepted = ap (λ (z : r01.RegistryReply). z .number) (asks.remove-budget i time r (ap r01.found q) (eqb-false i 1 d) b w t) in
+    rw (b, w′) (not-due r s i q d time (h accepted b))))
+    (λ b. rw b))))
+
+pub remove-carv-os : (i time : ℕ) (r : Registry) → Sound r
+    → (r01.remove i time r .number ≡ 0 → is-budget r i ≡ true → account.due (account-of r (payer-of r i)) time ≡ false)
+    → r01.remove i time r ≡ reply-of nothing 15 (rust.remove-unrenewed i r)
+remove-carv-os i time r s h = remove-rust i time r s ∙ ap (reply-of nothing 15) (remove-unrenewed-is i time r s h)
+
+-- P2's reference, made by calls: `refill` of the payer, then carv-os' own `remove`, where a budget's removal goes through
+pays-aside : (i p : ℕ) (x : Account) (m : List (Row Entry)) → r01.pays-in (alter p (rust.set-budget x) m) i ≡ r01.pays-in m i
+pays-aside i p x [] = refl
+pays-aside i p x (r ∷ m) = test (eqb (r .id) p)
+    (λ e. rw (e, ← eqb-true (r .id) p e))
+    (λ e. rw e (ap (λ (b : Bool). (not (eqb (r .id) i) && eqb (r .it .payer) i) || b) (pays-aside i p x m)))
+
+refilled-is : (p time : ℕ) (r : Registry) → is-budget r p ≡ true → rust.refill p time r .self ≡ write p (account.renew (account-of r p) time) r
+refilled-is p time r l = rw (budget-mut-is p r, l, refill-renews)
+
+module _ (r : Registry) (s : Sound r) (i : ℕ) (q : at (r .rows) i ≡ some (entry r i)) (d : eqb i 1 ≡ false) (time : ℕ)
+    (t : account.returnable (account-of r (payer-of r i)) (account-of r i) ≡ true) where
+  apart : i ≡ payer-of r i → ⊥
+  apart w = let h = s .each i (entry r i) q .lower (eqb-false i 1 d) in omega arith
+
+  abbrev refilled : Registry
+  refilled = write (payer-of r i) (account.renew (account-of r (payer-of r i)) time) r
+
+  same-entry : at (refilled .rows) i ≡ some (entry r i)
+  same-entry = at-alter-other (r .rows) (payer-of r i) i _ (λ w. apart (sym w)) ∙ q
+
+  same-left : drop i refilled ≡ write (payer-of r i) (account.renew (account-of r (payer-of r i)) time) (drop i r)
+  same-left = ap (with-rows r) (erase-alter (r .rows) i (payer-of r i) _ apart)
+
+  abbrev returned-account : Account
+  returned-account = account.return (account.renew (account-of r (payer-of r i)) time) (account-of r i)
+
+  refilled-returned : rust.remove-budget (λ parent. parent) (rust.budget-mut (payer-of r i) (drop i refilled)) i (entry r i) (drop i refilled)
+      ≡ rust.gives (rust.credit (payer-of r i) (entry r i .charge) (write (payer-of r i) returned-account (drop i r))) (rust.ok tt)
+  refilled-returned =
+      ap (λ (z : Registry). rust.remove-budget (λ parent. parent) (rust.budget-mut (payer-of r i) z) i (entry r i) z) same-left
+      ∙ ap (λ (o : Option Account). rust.remove-budget (λ parent. parent) o i (entry r i) (write (payer-of r i) (account.renew (account-of r (payer-of r i)) time) (drop i r)))
+      (budget-written (payer-of r i) (drop i r) (still-budget r s i q d) (account.renew (account-of r (payer-of r i)) time))
+      ∙ rw (
+        release-child-by (account.renew (account-of r (payer-of r i)) time) (account-of r i),
+        returnable-renewed (account-of r (payer-of r i)) (account-of r i) time,
+        t,
+      ) (ap (λ (z : Registry). rust.gives {A = Unit {0}} (rust.credit (payer-of r i) (entry r i .charge) z) (rust.ok tt)) (write-write (payer-of r i) _ _ (drop i r)))
+
+  both-returned : rust.remove-budget (λ parent. budget.refill parent time .self) (rust.budget-mut (payer-of r i) (drop i r)) i (entry r i) (drop i r)
+      ≡ rust.remove-budget (λ parent. parent) (rust.budget-mut (payer-of r i) (drop i refilled)) i (entry r i) (drop i refilled)
+  both-returned =
+      rw (
+        budget-mut-is (payer-of r i) (drop i r),
+        still-budget r s i q d,
+        same-account r s i q d,
+        refill-renews (account-of r (payer-of r i)) time,
+        release-child-by (account.renew (account-of r (payer-of r i)) time) (account-of r i),
+        returnable-renewed (account-of r (payer-of r i)) (account-of r i) time,
+        t,
+      ) (sym refilled-returned)
+
+pub remove-refilled : (i time : ℕ) (r : Registry) → Sound r → is-budget r i ≡ true → r01.remove i time r .number ≡ 0
+    → rust.remove i time r ≡ rust.remove-unrenewed i (rust.refill (payer-of r i) time r .self)
+remove-refilled i time r s b n = look (at (r .rows) i)
+    (λ q. let z : 7 ≡ 0 = rw q at n in absurd (omega arith))
+    λ q. test (eqb i 1) (λ d. let z : 9 ≡ 0 = rw (q, d) at n in absurd (omega arith)) λ d.
+    test (r01.pays-for r i) (λ w. let z : 10 ≡ 0 = rw (q, d, b, w) at n in absurd (omega arith)) λ w.
+    let w′ = sym (pays-is i (r .rows)) ∙ w in
+    let t = removal-returnable r i s (eqb-false i 1 d) b w .0 in
+    let x = account.renew (account-of r (payer-of r i)) time in
+    let v = sym (pays-is i (write (payer-of r i) x r .rows)) ∙ pays-aside i (payer-of r i) x (r .rows) ∙ w in
+    rw (refilled-is (payer-of r i) time r (payer-there r s i q), same-entry r s i q d time t, q, d, b, w′, v) (both-returned r s i q d time t)
 
 pub refill-rust : (i time : ℕ) (r : Registry) → r01.refill i time r ≡ reply-of a-renewal 13 (rust.refill i time r)
 refill-rust i time r = test (is-budget r i)

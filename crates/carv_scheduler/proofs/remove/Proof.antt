@@ -15,4 +15,4 @@ remove-spec =
     (λ c. entry-refused _ _ _ (c .before .is-sound .ensures) (c .if1 .taken))  -- returns
     (λ c κs. entry-sound _ _ (c .before .before .is-sound .ensures) (c .before .if1 .left))  -- remove-requires
     (λ c. search needs)  -- same-length-2
-    (λ c. entry-served _ _ _ (c .before .before .before .before .before .is-sound .ensures) (c .before .before .before .before .if1 .left) _ _ (registry-serves (remove (c .before .before .before .before .before .before .before .before .args .id)) _ _ _ (c .before .before .remove .ensures))))  -- returns-2
+    (λ c. entry-served _ _ _ (c .before .before .before .before .before .is-sound .ensures) (c .before .before .before .before .if1 .left) _ _ (registry-serves (remove (c .before .before .before .before .before .before .before .before .args .id) (c .before .before .before .before .before .before .before .before .args .time)) _ _ _ (c .before .before .remove .ensures))))  -- returns-2

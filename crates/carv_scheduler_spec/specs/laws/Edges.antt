@@ -62,10 +62,10 @@ second-frame = by-registry (create 3 3 true) (first-frame .after)
 
 -- these Frames removed
 abbrev pub first-gone : BoardReply
-first-gone = by-registry (remove 5) (second-frame .after)
+first-gone = by-registry (remove 5 0) (second-frame .after)
 
 abbrev pub both-gone : BoardReply
-both-gone = by-registry (remove 6) (first-gone .after)
+both-gone = by-registry (remove 6 0) (first-gone .after)
 
 -- an opening with this memory and 9,700,000 ns charged: 300,000 are left, so a renewal shows
 abbrev pub low : (memory : ℕ) → Board
@@ -135,13 +135,13 @@ pub record Edges : Type 0 where
       × (account (second-frame .after) 3 .«memory_used» ≡ 8_192)
       × Refused 12 (second-frame .after) (by-registry (create 4 3 true) (second-frame .after))
   -- "(m) Removing 3 meanwhile: 10."
-  pub removing-3-meanwhile : Refused 10 (second-frame .after) (by-registry (remove 3) (second-frame .after))
+  pub removing-3-meanwhile : Refused 10 (second-frame .after) (by-registry (remove 3 0) (second-frame .after))
   -- "With both Frames gone: accepted, root CPU left unchanged." The root has 0 left here, and 6,000,000 where the second carving was not made
   pub with-both-frames-gone : Accepted none first-gone × Accepted none both-gone
-      × Accepted none (by-registry (remove 3) (both-gone .after))
-      × (root (by-registry (remove 3) (both-gone .after) .after) .«cpu_left» ≡ root (both-gone .after) .«cpu_left»)
-      × Accepted none (by-registry (remove 3) (carve .after))
-      × (root (by-registry (remove 3) (carve .after) .after) .«cpu_left» ≡ 6_000_000)
+      × Accepted none (by-registry (remove 3 0) (both-gone .after))
+      × (root (by-registry (remove 3 0) (both-gone .after) .after) .«cpu_left» ≡ root (both-gone .after) .«cpu_left»)
+      × Accepted none (by-registry (remove 3 0) (carve .after))
+      × (root (by-registry (remove 3 0) (carve .after) .after) .«cpu_left» ≡ 6_000_000)
   -- "(m) Start 0: at 9,999,999 no renewal; at 25,000,000 start is 20,000,000."
   pub start-0 : (root (low 1_000_000) .«period_start» ≡ 0)
       × Unmoved (some (of-registry (renewed false))) (low 1_000_000) (by-registry (refill 1 9_999_999) (low 1_000_000))

@@ -46,7 +46,7 @@ impl Boards {
             Ids::Gaps => {
                 for _ in 0..2 {
                     let id = self.make(insert(NOTIFICATION, 1, 0));
-                    self.make(remove(id));
+                    self.make(remove(id, 0));
                 }
             }
             Ids::Far => {

@@ -4,9 +4,11 @@ use super::boards::{MEMORY, NOTIFICATION};
 use super::case::{Case, turn};
 use super::filled::Filled;
 use super::{Ids, Line};
+use carv_compare::board::call::Call;
 use carv_compare::board::make::*;
-use carv_compare::board::rust::on_rust;
+use carv_compare::board::rust;
 use carv_oracle::account::PERIOD;
+use carv_oracle::{Board, Value};
 
 /// Times every call on boards of so many objects that have no threads but the first two. `told`
 /// gets each line as soon as it is measured.
@@ -89,7 +91,7 @@ impl<F: Fn(usize) -> Filled> Rows<F> {
             filled.boards,
             turn!(
                 |turn| create(NOTIFICATION, payer, true),
-                remove(next + turn)
+                remove(next + turn, time(turn))
             ),
         )
     }
@@ -107,7 +109,7 @@ impl<F: Fn(usize) -> Filled> Rows<F> {
         self.case("remove the oldest, create", 2.0).turns(
             filled.boards,
             turn!(
-                |turn| remove(oldest(turn)),
+                |turn| remove(oldest(turn), time(turn)),
                 create(NOTIFICATION, payer(turn), true)
             ),
         )
@@ -118,17 +120,24 @@ impl<F: Fn(usize) -> Filled> Rows<F> {
         let (payer, next) = (filled.newest, filled.next_id());
         self.case("insert, remove", 2.0).turns(
             filled.boards,
-            turn!(|turn| insert(NOTIFICATION, payer, 100), remove(next + turn)),
+            turn!(
+                |turn| insert(NOTIFICATION, payer, 100),
+                remove(next + turn, time(turn))
+            ),
         )
     }
 
-    /// At a time at which the parent renews: only so is there always CPU time left.
+    /// At a time at which the parent renews: only so is there always CPU time left. The removal then
+    /// finds it renewed.
     fn create_budget_and_remove(&self) -> Line {
         let filled = (self.filled)(1);
         let (parent, next) = (filled.newest, filled.next_id());
         self.case("create_budget, remove", 2.0).turns(
             filled.boards,
-            turn!(|turn| carve(parent, 1, 64, time(turn)), remove(next + turn)),
+            turn!(
+                |turn| carve(parent, 1, 64, time(turn)),
+                remove(next + turn, time(turn))
+            ),
         )
     }
 
@@ -181,6 +190,17 @@ impl<F: Fn(usize) -> Filled> Rows<F> {
         let (id, _) = filled.middle();
         let case = self.case("charge_of", 1.0);
         case.turns(filled.boards, turn!(|_| charge_of(id)))
+    }
+}
+
+/// The call on the Rust, a removal as the Rust has it: [`Board::remove`] looks at the table before
+/// it, to know whom to renew, and that isn't to be timed. No removal here finds a payer that is due
+/// and is of a budget, so both leave the same.
+#[inline(always)]
+fn on_rust(call: Call, board: &mut Board) -> Result<Value, u8> {
+    match call {
+        Call::Remove { id, .. } => board.remove_unrenewed(id),
+        _ => rust::on_rust(call, board),
     }
 }
 

@@ -9,6 +9,12 @@ pub enum Mistake {
     // Of the registry.
     EveryChargeRefused,
     RemovalGivesCpuBack,
+    RemovalRenewsNobody,
+    RemovalRenewsBehindTheReturn,
+    RemovalRenewsForEveryKind,
+    RemovalRenewsThePayersPayerToo,
+    RemovalRenewsTheRemovedInstead,
+    RefusedRemovalRenews,
     StartSetToTime,
     RenewalForgetsReservations,
     KindBeforeCharge,

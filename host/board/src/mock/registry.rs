@@ -112,10 +112,18 @@ impl Model {
         Ok(vec![])
     }
 
-    pub(super) fn remove(&mut self, id: u64) -> Done {
+    pub(super) fn remove(&mut self, id: u64, time: u64) -> Done {
         let row = *self.object(id)?;
+        let is_budget = row.kind == BUDGET;
+        let pays = is_budget && self.pays(id);
+        if (id == 1 || pays) && planted(Mistake::RefusedRemovalRenews) {
+            renew(self.budget(row.payer)?, time);
+        }
         ask(9, id != 1)?;
-        ask(10, row.kind != BUDGET || !self.pays(id))?;
+        ask(10, !pays)?;
+        if is_budget || planted(Mistake::RemovalRenewsForEveryKind) {
+            self.renew_for_removal(&row, time)?;
+        }
         self.0.objects.retain(|row| row.id != id);
         if planted(Mistake::IdsGivenAgain) && id + 1 == self.0.next_id {
             self.0.next_id = id;
@@ -127,7 +135,26 @@ impl Model {
         if planted(Mistake::RemovalGivesCpuBack) {
             account.cpu_left += row.account.cpu_allowance;
         }
+        if is_budget && planted(Mistake::RemovalRenewsBehindTheReturn) {
+            renew(account, time);
+        }
         Ok(vec![])
+    }
+
+    /// Renews the payer of an object that is about to go.
+    fn renew_for_removal(&mut self, row: &ObjectRow, time: u64) -> Result<(), u64> {
+        let late = planted(Mistake::RemovalRenewsBehindTheReturn);
+        if late || planted(Mistake::RemovalRenewsNobody) {
+            return Ok(());
+        }
+        let instead = planted(Mistake::RemovalRenewsTheRemovedInstead);
+        let renewed = if instead { row.id } else { row.payer };
+        renew(self.budget(renewed)?, time);
+        if planted(Mistake::RemovalRenewsThePayersPayerToo) {
+            let above = self.object(row.payer)?.payer;
+            renew(self.budget(above)?, time);
+        }
+        Ok(())
     }
 
     pub(super) fn pays(&self, id: u64) -> bool {

@@ -5,6 +5,7 @@ mod codes;
 mod header;
 mod objects;
 mod refusals;
+mod removals;
 mod threads;
 mod whole;
 

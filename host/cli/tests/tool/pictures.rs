@@ -25,7 +25,7 @@ fn a_picture_is_drawn() {
     for event in [
         "create_budget root 5000000 0 0: refused with 12",
         "thread 5 of budget 3 (bag printer) is killed",
-        "remove 3: refused with 10",
+        "remove 3 10000000: refused with 10",
         "budget 3 (bag printer) is removed",
     ] {
         assert!(picture.contains(event), "{event}");

@@ -90,8 +90,8 @@ calls! {
     5 "charge_more" ChargeMore { id: u64, bytes: u64 }
     /// Lowers an object's charge.
     6 "uncharge" Uncharge { id: u64, bytes: u64 }
-    /// Removes an object.
-    7 "remove" Remove { id: u64 }
+    /// Removes an object, of a budget after its payer's renewal if that is due.
+    7 "remove" Remove { id: u64, time: u64 }
     /// Renews a budget if that is due.
     8 "refill" Refill { id: u64, time: u64 }
     /// Charges CPU time to a budget.

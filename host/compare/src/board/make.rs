@@ -47,8 +47,8 @@ pub const fn uncharge(id: u64, bytes: u64) -> Call {
 }
 
 /// Removes an object.
-pub const fn remove(id: u64) -> Call {
-    Call::Remove { id }
+pub const fn remove(id: u64, time: u64) -> Call {
+    Call::Remove { id, time }
 }
 
 /// Renews a budget.

@@ -51,8 +51,9 @@ pub struct Records {
     reference: Reference,
     walk: Walk,
     edges: vec::IntoIter<Edge>,
-    /// The last change.
+    /// The last change, and who paid for its object before it.
     last: Call,
+    payer: u64,
 }
 
 impl Records {
@@ -63,6 +64,7 @@ impl Records {
             walk: Walk::new(seed),
             edges: edges().into_iter(),
             last: Call::Current {},
+            payer: 1,
         }
     }
 
@@ -73,7 +75,9 @@ impl Records {
         if self.walk.draw().random.one_in(2) {
             return self.reading();
         }
-        self.last = self.walk.next_call(self.reference.state());
+        let state = self.reference.state();
+        self.last = self.walk.next_call(state);
+        self.payer = payer(self.last, state);
         self.last
     }
 
@@ -87,7 +91,7 @@ impl Records {
             let op = random.of(&readings);
             return self.walk.call(op, state);
         }
-        random.of(&about(self.last, state))
+        random.of(&about(self.last, self.payer, state))
     }
 }
 
@@ -101,21 +105,31 @@ impl Iterator for Records {
     }
 }
 
-/// Readings that tell what a call did.
-fn about(call: Call, state: &Snapshot) -> Vec<Call> {
+/// Who pays for the object that a call makes or is about; the root if there is none.
+fn payer(call: Call, before: &Snapshot) -> u64 {
     match call {
-        Call::Create { payer, .. } | Call::Insert { payer, .. } => {
-            about_object(state.next_id.wrapping_sub(1), payer)
-        }
-        Call::CreateBudget { parent, .. } => about_object(state.next_id.wrapping_sub(1), parent),
+        Call::Create { payer, .. } | Call::Insert { payer, .. } => payer,
+        Call::CreateBudget { parent, .. } => parent,
         Call::ChargeMore { id, .. }
         | Call::Uncharge { id, .. }
-        | Call::Remove { id }
+        | Call::Remove { id, .. }
         | Call::Refill { id, .. }
-        | Call::ChargeCpu { id, .. } => {
-            let payer = entry(state, id).map_or(1, |entry| entry.payer);
-            about_object(id, payer)
+        | Call::ChargeCpu { id, .. } => entry(before, id).map_or(1, |entry| entry.payer),
+        _ => 1,
+    }
+}
+
+/// Readings that tell what a call did, which left this state.
+fn about(call: Call, payer: u64, state: &Snapshot) -> Vec<Call> {
+    match call {
+        Call::Create { .. } | Call::Insert { .. } | Call::CreateBudget { .. } => {
+            about_object(state.next_id.wrapping_sub(1), payer)
         }
+        Call::ChargeMore { id, .. }
+        | Call::Uncharge { id, .. }
+        | Call::Remove { id, .. }
+        | Call::Refill { id, .. }
+        | Call::ChargeCpu { id, .. } => about_object(id, payer),
         Call::CreateUserThread { id, .. }
         | Call::Start { id, .. }
         | Call::Wake { id, .. }
@@ -155,6 +169,7 @@ fn about_thread(id: u64, state: &Snapshot) -> Vec<Call> {
 #[cfg(test)]
 mod tests {
     use super::super::numbers;
+    use super::super::removal::Removal;
     use super::*;
     use std::collections::BTreeMap;
 
@@ -228,6 +243,21 @@ mod tests {
             assert!(count > 4, "{op:?} with {number}: {count}");
         }
         assert!(found.is_empty(), "{found:?}");
+    }
+
+    #[test]
+    fn removals_meet_every_case() {
+        let mut board = Reference::default();
+        let removals = records().map(|record| {
+            let removal = Removal::of(record.call, board.state());
+            board.call(record.call);
+            removal
+        });
+        let found = Removal::counts(removals.skip(edges().len()).flatten());
+        for case in Removal::all() {
+            let count = found.get(&case).copied().unwrap_or(0);
+            assert!(count > 4, "{case:?}: {count}");
+        }
     }
 
     #[test]

@@ -1,4 +1,4 @@
-//! The calls on the Rust.
+//! The calls on the Rust, with what document 02 has put into them.
 
 use super::call::Call;
 use carv_oracle::{Board, Value, Wait};
@@ -32,7 +32,7 @@ pub fn on_rust(call: Call, board: &mut Board) -> Result<Value, u8> {
         } => board.create_budget(parent, cpu, memory, time),
         Call::ChargeMore { id, bytes } => board.charge_more(id, bytes),
         Call::Uncharge { id, bytes } => board.uncharge(id, bytes),
-        Call::Remove { id } => board.remove(id),
+        Call::Remove { id, time } => board.remove(id, time),
         Call::Refill { id, time } => board.refill(id, time),
         Call::ChargeCpu { id, ns, time } => board.charge_cpu(id, ns, time),
         Call::PaysForAnything { id } => board.pays_for_anything(id),

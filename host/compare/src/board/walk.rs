@@ -244,9 +244,7 @@ impl Walk {
             Op::CreateBudget => self.create_budget(state),
             Op::ChargeMore => self.charge_more(state),
             Op::Uncharge => self.uncharge(state),
-            Op::Remove => Call::Remove {
-                id: self.object(state),
-            },
+            Op::Remove => self.remove(state),
             Op::Refill => self.refill(state),
             Op::ChargeCpu => self.charge_cpu(state),
             Op::PaysForAnything => Call::PaysForAnything {

@@ -4,7 +4,7 @@ use super::{Record, Registry};
 use crate::board::OBJECTS;
 use crate::board::call::Op;
 use crate::draw::Draw;
-use crate::state::{account_of, entry, is_budget, renewed};
+use crate::state::{account_of, entry, is_budget, removable_budget, renewed};
 use carv_oracle::Snapshot;
 use carv_oracle::account::{Account, PERIOD};
 
@@ -56,8 +56,8 @@ impl Iterator for Records {
 /// A call of the list that comes first, with document 01's number.
 type Edge = (Op, [u64; 4], u64);
 
-/// Document 01's edges of the registry, with readings between.
-const EDGES: [Edge; 72] = [
+/// Document 01's edges of the registry and those of document 02's requests, with readings between.
+const EDGES: [Edge; 98] = [
     // No registry is open.
     (Op::Account, [1, 0, 0, 0], 1),
     (Op::Create, [3, 1, 1, 0], 1),
@@ -139,6 +139,36 @@ const EDGES: [Edge; 72] = [
     (Op::Account, [1, 0, 0, 0], 0),
     (Op::Open, [u64::MAX, 1, 0, 0], 2),
     (Op::ChargeOf, [2, 0, 0, 0], 0),
+    // Removals that are refused, or of another kind, while all are due.
+    (Op::Open, [PERIOD, 1_000_000, 0, 0], 0),
+    (Op::CreateBudget, [1, 6_000_000, 100_000, 0], 0),
+    (Op::CreateBudget, [2, 4_000_000, 0, 0], 0),
+    (Op::CreateBudget, [2, 1_000_000, 0, 0], 0),
+    (Op::CreateBudget, [2, 0, 0, 0], 0),
+    (Op::Create, [3, 2, 1, 0], 0),
+    (Op::Remove, [1, PERIOD, 0, 0], 9),
+    (Op::Remove, [2, PERIOD, 0, 0], 10),
+    (Op::Remove, [7, PERIOD, 0, 0], 7),
+    (Op::Account, [1, 0, 0, 0], 0),
+    (Op::Remove, [6, PERIOD, 0, 0], 0),
+    (Op::Account, [2, 0, 0, 0], 0),
+    // Budget 3 uses its time and goes: its payer is renewed first.
+    (Op::ChargeCpu, [3, 4_000_000, PERIOD, 0], 0),
+    (Op::Remove, [3, PERIOD + 4_000_000, 0, 0], 0),
+    (Op::Account, [2, 0, 0, 0], 0),
+    (Op::Account, [1, 0, 0, 0], 0),
+    // Not due, and a clock that falls.
+    (Op::ChargeCpu, [2, 1_000_000, 2 * PERIOD - 1, 0], 0),
+    (Op::Remove, [4, 2 * PERIOD - 1, 0, 0], 0),
+    (Op::Account, [2, 0, 0, 0], 0),
+    (Op::Remove, [5, 0, 0, 0], 0),
+    (Op::Account, [2, 0, 0, 0], 0),
+    (Op::Refill, [2, 2 * PERIOD, 0, 0], 0),
+    (Op::Account, [2, 0, 0, 0], 0),
+    // The root is the payer.
+    (Op::Remove, [2, u64::MAX, 0, 0], 0),
+    (Op::Account, [1, 0, 0, 0], 0),
+    (Op::Account, [2, 0, 0, 0], 7),
 ];
 
 /// Random calls.
@@ -212,7 +242,7 @@ impl Records {
             12..20 => self.create_budget(),
             20..25 => self.charge_more(),
             25..30 => self.uncharge(),
-            30..37 => (Op::Remove, [self.object(), 0, 0, 0]),
+            30..37 => self.remove(),
             37..40 => self.refill(),
             _ => self.charge_cpu(),
         }
@@ -254,6 +284,24 @@ impl Records {
         let id = self.object();
         let charge = entry(self.registry.state(), id).map_or(0, |entry| entry.charge);
         (Op::Uncharge, [id, self.draw.amount(charge), 0, 0])
+    }
+
+    /// Of any object, or of a budget that pays for nothing, at any time or one at which its payer
+    /// is due.
+    fn remove(&mut self) -> (Op, [u64; 4]) {
+        let from = self.draw.random.below(self.objects() as u64) as usize;
+        let budget = match self.draw.random.below(4) {
+            0 => removable_budget(self.registry.state(), from),
+            _ => None,
+        };
+        let id = budget.unwrap_or_else(|| self.object());
+        let payer = entry(self.registry.state(), id).map_or(0, |entry| entry.payer);
+        let start = self.account(payer).period_start;
+        let time = match self.draw.random.below(4) {
+            0 => start.saturating_add(PERIOD + self.draw.within(PERIOD)),
+            _ => self.time(start),
+        };
+        (Op::Remove, [id, time, 0, 0])
     }
 
     fn refill(&mut self) -> (Op, [u64; 4]) {
@@ -361,8 +409,10 @@ impl Records {
 
 #[cfg(test)]
 mod tests {
+    use super::super::call;
     use super::*;
     use crate::board::numbers;
+    use crate::board::removal::Removal;
 
     const COUNT: usize = 100_000;
 
@@ -406,6 +456,24 @@ mod tests {
     }
 
     #[test]
+    fn figures_of_removals() {
+        let edges: Vec<Record> = records().take(EDGES.len()).collect();
+        // Period start, CPU left and CPU reserved: the root, then budget 2, as they were.
+        assert_eq!(edges[81].values[2..5], [0, 4_000_000, 6_000_000]);
+        assert_eq!(edges[83].values[2..5], [0, 1_000_000, 5_000_000]);
+        // Budget 2 is renewed with the 4 ms of budget 3 still reserved, the root isn't.
+        assert_eq!(edges[86].values[2..5], [PERIOD, 1_000_000, 1_000_000]);
+        assert_eq!(edges[87].values[2..5], [0, 4_000_000, 6_000_000]);
+        // Not due, and a clock that fell: the reservations go, all else stays.
+        assert_eq!(edges[90].values[2..5], [PERIOD, 0, 0]);
+        assert_eq!(edges[92].values[2..5], [PERIOD, 0, 0]);
+        assert_eq!(edges[94].values[2..5], [2 * PERIOD, 6_000_000, 0]);
+        // The root has the 6 ms of budget 2 from its next renewal on.
+        let last = u64::MAX - u64::MAX % PERIOD;
+        assert_eq!(edges[96].values[2..], [last, 4_000_000, 0, 0, 0]);
+    }
+
+    #[test]
     fn every_answer_occurs() {
         // Before the first opening, 1 too.
         let rest: Vec<Record> = records().skip(EDGES.len()).collect();
@@ -417,6 +485,22 @@ mod tests {
                 assert_eq!(found > 10, expected, "{op:?} with {number}: {found}");
                 assert!(expected || found == 0, "{op:?} with {number}: {found}");
             }
+        }
+    }
+
+    #[test]
+    fn removals_meet_every_case() {
+        let mut registry = Registry::default();
+        let removals = records().map(|record| {
+            let call = call(record.op, record.arguments);
+            let removal = Removal::of(call, registry.state());
+            registry.call(record.op, record.arguments);
+            removal
+        });
+        let found = Removal::counts(removals.skip(EDGES.len()).flatten());
+        for case in Removal::all() {
+            let count = found.get(&case).copied().unwrap_or(0);
+            assert!(count > 4, "{case:?}: {count}");
         }
     }
 

@@ -91,10 +91,10 @@ fn the_largest() {
     let mut children: Vec<ObjectId> = Vec::new();
     for n in 1..9_000 {
         if n % 10 == 0 {
-            for child in children.drain(..) {
-                accepted(bench.board.remove(child));
-            }
             bench.now_ns = n * MS;
+            for child in children.drain(..) {
+                accepted(bench.board.remove(child, bench.now_ns));
+            }
             let reserved = n / 10 % 7 * 1_000;
             children.extend(
                 budgets
@@ -194,7 +194,7 @@ fn a_share_of_nothing() {
             .board
             .kill(carv::ThreadId(100 + one.0), carv::Cause::Destroyed),
     );
-    accepted(bench.board.remove(one));
+    accepted(bench.board.remove(one, 40 * MS));
     bench.tick(41..=80);
     let svg = drawn("no share", &bench.trace, None);
     has(&svg, ">share 0 ms</text>");

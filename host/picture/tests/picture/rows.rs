@@ -24,7 +24,7 @@ fn one_name_one_row() {
     bench.plan(0);
     bench.tick(1..=3);
     accepted(bench.board.kill(ThreadId(100 + one.0), Cause::Destroyed));
-    accepted(bench.board.remove(one));
+    accepted(bench.board.remove(one, 3 * MS));
     bench.tick(4..=29);
     let two = bench.service(MS);
     bench.plan(29);

@@ -136,7 +136,7 @@ fn off() {
     let one = bench.budget(2 * MS);
     bench.inactive(7, one);
     bench.tick([2]);
-    accepted(bench.board.remove(one));
+    accepted(bench.board.remove(one, 2 * MS));
     bench.tick([3]);
     assert_eq!(
         [1, 2, 3].map(|n| bench.doing(one, n)),
@@ -153,12 +153,33 @@ fn runs_without_its_budget() {
     let one = bench.service(2 * MS);
     bench.plan(0);
     bench.book(1);
-    accepted(bench.board.remove(one));
+    accepted(bench.board.remove(one, MS));
     bench.book(2);
     assert_eq!(bench.doing(one, 2), Some(Runs));
     let part = bench.part(&label(one), 0);
     assert_eq!((part.got_ns, part.ms(Runs)), (MS, 2));
     assert_eq!(bench.part("idle", 0).ms(Runs), 0);
+}
+
+/// A removed budget had its time in this period: of the share that it leaves, its payer gets the
+/// rest, and the whole from the next period on.
+#[test]
+fn a_removal_in_a_period() {
+    let mut bench = Bench::without_first();
+    let payer = bench.budget(5 * MS);
+    let child = bench.budget_of(payer, 4 * MS);
+    let of_child = bench.thread(7, child);
+    bench.plan(10);
+    bench.tick(11..=14);
+    accepted(bench.board.kill(of_child, Cause::Destroyed));
+    accepted(bench.board.remove(child, 14 * MS));
+    bench.thread(8, payer);
+    bench.plan(14);
+    bench.tick(15..=30);
+    let got = |budget, period| bench.part(&label(budget), period).got_ns;
+    assert_eq!([got(child, 1), got(payer, 1)], [4 * MS, MS]);
+    assert!(bench.part(&label(payer), 1).held_back);
+    assert_eq!([got(child, 2), got(payer, 2)], [0, 5 * MS]);
 }
 
 /// What is reserved below a budget isn't its share; the highest of a period counts.

@@ -8,6 +8,7 @@ pub give-back-spec : {M : Type 1} → statement M
 give-back-spec =
     tie.close
     (tie.spec
+    (λ c κs. c .pre .0)  -- renew-requires
     (λ c κs. search needs)  -- release-child-requires
     (λ c κs. search needs)  -- booking-requires
-    (λ c. return-books _ (c .before .before .pre .0) _ (c .before .before .pre .1) _ (c .before .release-child .ensures) (c .booking .result) (c .booking .ensures)))  -- returns
+    (λ c. return-books _ (c .before .before .before .pre .0) _ (c .before .before .before .pre .1) _ _ (c .before .before .renew .ensures) _ (c .before .release-child .ensures) (c .booking .result) (c .booking .ensures)))  -- returns

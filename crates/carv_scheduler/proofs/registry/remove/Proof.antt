@@ -12,6 +12,6 @@ remove-spec =
     (λ c. search needs)  -- sub-remove
     (λ c. search needs)  -- part-remove-start
     (λ c. part-fits _ (c .before .pre))  -- part-remove-end
-    (λ c κs. part-sound (remove (c .before .before .args .id)) _ (c .before .before .pre))  -- remove-requires
+    (λ c κs. part-sound (remove (c .before .before .args .id) (c .before .before .args .time)) _ (c .before .before .pre))  -- remove-requires
     (λ c. search needs)  -- same-length
-    (λ c. part-served (remove (c .before .before .before .before .before .args .id)) (c .before .before .before .before .before .args .a .now) (c .before .before .before .before .before .pre) _ _ (search needs) (c .before .before .remove .ensures)))  -- returns
+    (λ c. part-served (remove (c .before .before .before .before .before .args .id) (c .before .before .before .before .before .args .time)) (c .before .before .before .before .before .args .a .now) (c .before .before .before .before .before .pre) _ _ (search needs) (c .before .before .remove .ensures)))  -- returns

@@ -2,6 +2,7 @@
 
 use super::Report;
 use crate::soak::{Found, Limit, Options};
+use crate::tally::REMOVALS;
 use carv_compare::board::call::Op;
 use carv_text::json::Json;
 
@@ -30,6 +31,7 @@ impl Report {
             ("by_call", self.calls_json()),
             ("refusals", self.refusals_json()),
             ("boards", self.boards_json()),
+            ("removals", self.removals_json()),
             ("damaged", self.damaged_json()),
             ("differences", Json::Number(self.differences())),
             ("difference", self.difference_json()),
@@ -73,6 +75,16 @@ impl Report {
             ("kills", Json::Number(reached.kills)),
             ("plans_to_idle", Json::Number(reached.plans_to_idle)),
         ])
+    }
+
+    fn removals_json(&self) -> Json {
+        let removals = REMOVALS.map(|(_, is_meant)| {
+            let counts = self.tally.removals_by_clock(is_meant).map(Json::Number);
+            let names = ["payer_due", "not_due", "clock_fell"];
+            Json::object(names.into_iter().zip(counts))
+        });
+        let names = ["budget", "another_kind", "refused"];
+        Json::object(names.into_iter().zip(removals))
     }
 
     fn damaged_json(&self) -> Json {

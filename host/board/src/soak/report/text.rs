@@ -2,6 +2,7 @@
 
 use super::Report;
 use crate::damage;
+use crate::tally::REMOVALS;
 use carv_compare::board::call::Op;
 use carv_compare::board::numbers;
 use carv_text::figures::{counted, grouped};
@@ -97,6 +98,20 @@ impl Report {
             ("plannings to idle", reached.plans_to_idle),
         ] {
             writeln!(f, "{name:20}{:>14}", grouped(figure))?;
+        }
+        writeln!(f)?;
+        self.write_removals(f)
+    }
+
+    /// The removals by what they were of, and when their payers saw them.
+    fn write_removals(&self, f: &mut fmt::Formatter<'_>) -> fmt::Result {
+        let heads = ["payer due", "not due", "clock fell"].map(str::to_string);
+        let counted = REMOVALS.map(|(name, is_meant)| {
+            let counts = self.tally.removals_by_clock(is_meant);
+            (name, counts.map(grouped))
+        });
+        for (name, [due, not_due, fell]) in [("removals", heads)].into_iter().chain(counted) {
+            writeln!(f, "{name:20}{due:>14}{not_due:>14}{fell:>14}")?;
         }
         writeln!(f)
     }

@@ -2,7 +2,7 @@
 
 use super::{Mood, Walk};
 use crate::board::call::Call;
-use crate::state::{account_of, entry, is_budget, renewed};
+use crate::state::{account_of, entry, is_budget, removable_budget, renewed};
 use carv_oracle::Snapshot;
 
 impl Walk {
@@ -57,6 +57,19 @@ impl Walk {
         let charge = entry(state, id).map_or(0, |entry| entry.charge);
         let bytes = self.draw.amount(charge);
         Call::Uncharge { id, bytes }
+    }
+
+    /// Of any object, or of a budget that pays for nothing, at a time around its payer's periods.
+    pub(super) fn remove(&mut self, state: &Snapshot) -> Call {
+        let from = self.draw.random.below(state.entries.len() as u64) as usize;
+        let budget = match self.draw.random.below(4) {
+            0 => removable_budget(state, from),
+            _ => None,
+        };
+        let id = budget.unwrap_or_else(|| self.object(state));
+        let payer = entry(state, id).map_or(0, |entry| entry.payer);
+        let time = self.time(account_of(state, payer).period_start);
+        Call::Remove { id, time }
     }
 
     pub(super) fn refill(&mut self, state: &Snapshot) -> Call {
