@@ -53,17 +53,21 @@ fn short_lists_agree() {
     }
 }
 
+/// The wrong renewals of a removal.
+const REMOVALS_RENEW_WRONGLY: [Mistake; 6] = [
+    Mistake::RemovalRenewsNobody,
+    Mistake::RemovalRenewsBehindTheReturn,
+    Mistake::RemovalRenewsForEveryKind,
+    Mistake::RemovalRenewsThePayersPayerToo,
+    Mistake::RemovalRenewsTheRemovedInstead,
+    Mistake::RefusedRemovalRenews,
+];
+
 #[test]
 fn random_lists_find_mistakes_in_the_registry() {
-    for mistake in [
+    for mistake in REMOVALS_RENEW_WRONGLY.into_iter().chain([
         Mistake::EveryChargeRefused,
         Mistake::RemovalGivesCpuBack,
-        Mistake::RemovalRenewsNobody,
-        Mistake::RemovalRenewsBehindTheReturn,
-        Mistake::RemovalRenewsForEveryKind,
-        Mistake::RemovalRenewsThePayersPayerToo,
-        Mistake::RemovalRenewsTheRemovedInstead,
-        Mistake::RefusedRemovalRenews,
         Mistake::StartSetToTime,
         Mistake::RenewalForgetsReservations,
         Mistake::KindBeforeCharge,
@@ -77,7 +81,7 @@ fn random_lists_find_mistakes_in_the_registry() {
         Mistake::IdsGivenAgain,
         Mistake::UnchargeAboveCharge,
         Mistake::RootPaysForItself,
-    ] {
+    ]) {
         random_lists_find(mistake);
     }
 }
@@ -152,14 +156,8 @@ fn random_lists_find(mistake: Mistake) {
 
 #[test]
 fn short_lists_find_mistakes_in_calls() {
-    for mistake in [
+    for mistake in REMOVALS_RENEW_WRONGLY.into_iter().chain([
         Mistake::RemovalGivesCpuBack,
-        Mistake::RemovalRenewsNobody,
-        Mistake::RemovalRenewsBehindTheReturn,
-        Mistake::RemovalRenewsForEveryKind,
-        Mistake::RemovalRenewsThePayersPayerToo,
-        Mistake::RemovalRenewsTheRemovedInstead,
-        Mistake::RefusedRemovalRenews,
         Mistake::StartSetToTime,
         Mistake::RefusedCarveForgetsRenewal,
         Mistake::RefusedCarveKeepsCharge,
@@ -181,7 +179,7 @@ fn short_lists_find_mistakes_in_calls() {
         Mistake::MissingBudgetHasTime,
         Mistake::SleepersWakeLate,
         Mistake::EveryWaitIsASleep,
-    ] {
+    ]) {
         let found = with(mistake, || short::short(3));
         assert!(found.is_err(), "{mistake:?} was not found");
     }
