@@ -113,7 +113,7 @@ enum {
     CARV_CAUSE_FAULTED = 2
 };
 
-/* What a call returns: document 01's numbers. */
+/* What a call returns: document 01's numbers, but for 15, which no call gives. */
 enum {
     CARV_ACCEPTED = 0,
     /* Something is lent in another length, or the area holds no sound board. */
@@ -146,9 +146,7 @@ enum {
     /* An object of this kind can't be created. */
     CARV_REFUSED_KIND = 13,
     /* The backing, or the new thread's kernel stack, is not there. */
-    CARV_REFUSED_BACKING = 14,
-    /* The reservation of a removed budget can't be returned. A sound board never answers this. */
-    CARV_REFUSED_RETURN = 15
+    CARV_REFUSED_BACKING = 14
 };
 
 /* Indexes of the answer words. */

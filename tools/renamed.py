@@ -54,7 +54,7 @@ FOLLOWS = {'carv_registry': [word('Follows', 'FollowsRegistry')],
     'carv': [word('Follows', 'LentAlone')]}
 
 
-NUMBERS = 'unsound share tick code id full missing state root pays charge limit kind backing return'.split()
+NUMBERS = 'unsound share tick code id full missing state root pays charge limit kind backing'.split()
 
 
 def argument_end(line, i):

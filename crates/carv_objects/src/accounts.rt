@@ -114,14 +114,14 @@ pub fn spend_most(a: Account, ns: u64, time: u64) -> Account
     done.account
 }
 
-// A child returned to the renewed account, if it can be.
-pub fn give_back(a: Account, child: Account, time: u64) -> Booked
-    requires { ⌜ (sound a ≡ true) × (sound child ≡ true) ⌝ }
-    ensures { λ r. ⌜ Books (returnable a child) (return (renew a time) child) r ⌝ }
+// A child returned to the renewed account.
+pub fn give_back(a: Account, child: Account, time: u64) -> Account
+    requires { ⌜ (sound a ≡ true) × (sound child ≡ true) × (returnable a child ≡ true) ⌝ }
+    ensures { λ r. ⌜ r ≡ return (renew a time) child ⌝ }
 {
     let renewed = renew(a, time);
     let done = renewed.release_child(child);
-    booking(done)
+    done.account
 }
 
 // A child carved out of the renewed account, if its share is left.

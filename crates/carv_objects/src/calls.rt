@@ -357,7 +357,7 @@ fn release(a: &mut [u8], j: usize, payer: u64, account: Account, i: usize) -> An
     Answer::Done
 }
 
-// A removed budget's payer is renewed, and then gets the child back.
+// A removed budget's payer is renewed, and then gets the child back. On a sound area a budget that pays for nothing can be returned.
 pub fn remove(a: &mut [u8], id: u64, time: u64) -> Answer
     requires { ⌜ sound-area (now a) ≡ true ⌝ }
     ensures { λ r. ⌜ Serves (remove id time) (now (a .entry)) r (now (a .exit)) ⌝ }
@@ -379,9 +379,7 @@ pub fn remove(a: &mut [u8], id: u64, time: u64) -> Answer
         return Answer::Refused(refused::PAYS);
     }
     let child = e.account;
-    let Booked::Yes(returned) = accounts::give_back(account, child, time) else {
-        return Answer::Refused(refused::RETURN);
-    };
+    let returned = accounts::give_back(account, child, time);
     let paid = accounts::credit(returned, e.charge);
     release(a, j, e.payer, paid, i)
 }

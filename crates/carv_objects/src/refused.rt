@@ -41,6 +41,3 @@ pub const KIND: u64 = 13;
 
 // Is the backing there?
 pub const BACKING: u64 = 14;
-
-// Can the removed child's reservation be returned?
-pub const RETURN: u64 = 15;

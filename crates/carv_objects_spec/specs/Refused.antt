@@ -1,4 +1,5 @@
--- Document 01's refusal numbers, by the names that include/carv.h has for them, and which of them 01 marks as added by the port. Assumes nothing.
+-- Document 01's refusal numbers, by the names that include/carv.h has for them, and which of them 01 marks as added by the port. 15 is no number of a registry or board
+-- (P12; Question15.antt): an account called alone answers it (carv_budget). Assumes nothing.
 use mathlib.Core.Bool.{Bool, _&&_, _||_}
 use Prim.Native.Nat.{ℕ}
 use lib.Dec.{eqb, leb}
@@ -58,10 +59,6 @@ kind = 13
 -- "14. Is the backing there?"
 abbrev pub backing : ℕ
 backing = 14
-
--- "15. Can the removed child's reservation be returned?"
-abbrev pub return : ℕ
-return = 15
 
 -- "Numbers marked +": 1 to 6 and 11
 abbrev pub added : ℕ → Bool

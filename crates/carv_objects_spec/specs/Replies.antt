@@ -7,7 +7,8 @@ use Rattle.carv_objects_spec.specs.Reply.{refuse, accept, Value, id, ren
 use Rattle.carv_objects_spec.specs.Registry.{Registry, RegistryReply}
 use Rattle.carv_objects_spec.specs.Rust.{ObjectError, not-found, budget-exceeded, invalid-method, root-budget, in-use, out-of-memory, Result, ok, err, Call}
 
--- `InvalidMethod` is 13 for a creation and 15 for a removal; no other method answers it
+-- `InvalidMethod` is 13 for a creation; no other method answers it but a removal, where it is 15, as for an account alone. No call of the port answers 15 (P12), so
+-- demand 2 also says that the Rust's removal doesn't come to it
 abbrev pub number-of : (invalid : ℕ) → ObjectError → ℕ
 number-of invalid not-found = 7
 number-of invalid root-budget = 9

@@ -78,7 +78,7 @@ impl fmt::Display for Report {
 }
 
 /// Damages `count` areas of random boards, which the seed fixes, and makes every kind of call on
-/// each. Those that are still sound must not be refused with 1.
+/// each. Those that are still sound must answer a number of the call's own, so not 1.
 ///
 /// # Errors
 /// The first difference, in a few lines.

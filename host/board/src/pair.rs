@@ -5,7 +5,8 @@ use crate::edit;
 use crate::port::{IMAGE_BYTES, Port};
 use crate::snapshot;
 use carv_compare::board::IDLE;
-use carv_compare::board::call::{Call, Edit, Step};
+use carv_compare::board::call::{Call, Edit, Op, Step};
+use carv_compare::board::numbers;
 use carv_compare::board::reference::{ANSWER_WORDS, Answer, Reference};
 use carv_compare::board::removal::Removal;
 use carv_oracle::Snapshot;
@@ -88,7 +89,7 @@ impl Pair {
         self.port.out.copy_from_slice(&UNTOUCHED);
         self.port.image.copy_from_slice(&UNTOUCHED_IMAGE);
         let found = self.port.make(call);
-        self.compare(found, &answer)?;
+        self.compare(call, found, &answer)?;
         self.compare_image(call, answer.number)?;
         Ok(answer.number)
     }
@@ -99,7 +100,7 @@ impl Pair {
         edit::apply(edit, &mut self.port.area);
     }
 
-    fn compare(&self, found: u64, answer: &Answer) -> Result<(), Difference> {
+    fn compare(&self, call: Call, found: u64, answer: &Answer) -> Result<(), Difference> {
         let Answer {
             number,
             written,
@@ -107,6 +108,9 @@ impl Pair {
         } = *answer;
         if found != number {
             return Err(format!("the number is {found}, not {number}"));
+        }
+        if self.reference.is_open() {
+            own_number(call.op(), found)?;
         }
         let mut expected = UNTOUCHED;
         expected[..written].copy_from_slice(&words[..written]);
@@ -145,6 +149,20 @@ impl Pair {
     }
 }
 
+/// A call on a sound board answers a number that is listed for it, whatever the Rust answers.
+///
+/// # Errors
+/// The number, if it isn't.
+pub fn own_number(op: Op, found: u64) -> Result<(), Difference> {
+    match numbers::of(op).contains(&found) {
+        true => Ok(()),
+        false => Err(format!(
+            "the number is {found}, which {} never answers on a sound board",
+            op.name()
+        )),
+    }
+}
+
 fn same_words(found: &[u64], expected: &[u64]) -> Result<(), Difference> {
     let name = |word: &u64| match *word == UNTOUCHED[0] {
         true => "untouched".to_string(),
@@ -171,4 +189,38 @@ fn first_differing<'a, T: PartialEq>(
     let mut places = found.iter().zip(expected).enumerate();
     let (place, (found, expected)) = places.find(|(_, (found, expected))| found != expected)?;
     Some((place, found, expected))
+}
+
+#[cfg(test)]
+mod tests {
+    use super::*;
+    use carv_compare::board::make::{open, remove};
+
+    /// Also where both sides give it. Before an opening there is no sound board.
+    #[test]
+    fn a_number_that_is_not_the_call_s_own_differs() {
+        let compared = |pair: &Pair, call, number| {
+            let answer = Answer {
+                number,
+                ..Answer::default()
+            };
+            pair.compare(call, number, &answer)
+        };
+        let mut pair = Pair::new();
+        assert_eq!(pair.call(remove(2, 0)), Ok(1));
+        pair.call(open(0, 0)).expect("no difference");
+        pair.port.out.copy_from_slice(&UNTOUCHED);
+        for (call, own) in [
+            (remove(2, 0), [0, 7, 9, 10].as_slice()),
+            (open(0, 0), &[0, 2]),
+        ] {
+            for number in 0..20 {
+                let done = compared(&pair, call, number);
+                assert_eq!(done.is_ok(), own.contains(&number), "{call}: {done:?}");
+            }
+        }
+        let done = compared(&pair, remove(2, 0), 15);
+        let why = "the number is 15, which remove never answers on a sound board";
+        assert_eq!(done, Err(why.to_string()));
+    }
 }

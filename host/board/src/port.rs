@@ -58,11 +58,14 @@ impl Port {
 mod tests {
     use super::*;
     use crate::area;
-    use carv::{Kind, State, ThreadId, Wait};
+    use carv::{Kind, Refusal, State, ThreadId, Wait};
+    use carv_compare::board::numbers::{self, NUMBERS};
+    use carv_compare::board::reference::UNSOUND;
     use carv_compare::board::{
         BUDGET, EXITS, IDLE, LAST_TICK, OBJECTS, SLEEP, THREADS, TICK, state,
     };
     use carv_oracle::account::PERIOD;
+    use std::collections::BTreeSet;
 
     #[test]
     fn lengths_are_the_wrappers() {
@@ -88,5 +91,15 @@ mod tests {
         ] {
             assert_eq!(code, named.code(), "{named:?}");
         }
+    }
+
+    #[test]
+    fn numbers_are_the_wrappers() {
+        let refused = Refusal::LISTED.map(Refusal::number);
+        let listed: BTreeSet<u64> = refused.into_iter().chain([0]).collect();
+        let answers = numbers::all().map(|(_, number)| number);
+        let answers: BTreeSet<u64> = answers.chain([UNSOUND]).collect();
+        assert_eq!(answers, listed);
+        assert_eq!(NUMBERS, listed.len());
     }
 }

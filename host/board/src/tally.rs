@@ -53,7 +53,8 @@ pub const REMOVALS: [Removals; 3] = [
 ];
 
 impl Tally {
-    /// Counts a call that gave this number, which document 01 lists, and was the last of this pair.
+    /// Counts a call that gave this number, and was the last of this pair, which lets no number pass
+    /// that calls don't answer.
     pub fn count(&mut self, call: Call, number: u64, pair: &Pair) {
         let after = pair.state();
         if let Some(removal) = pair.removal() {

@@ -68,6 +68,7 @@ fn random_lists_find_mistakes_in_the_registry() {
     for mistake in REMOVALS_RENEW_WRONGLY.into_iter().chain([
         Mistake::EveryChargeRefused,
         Mistake::RemovalGivesCpuBack,
+        Mistake::RemovalAnswers15WhereTheBudgetRan,
         Mistake::StartSetToTime,
         Mistake::RenewalForgetsReservations,
         Mistake::KindBeforeCharge,
@@ -158,6 +159,7 @@ fn random_lists_find(mistake: Mistake) {
 fn short_lists_find_mistakes_in_calls() {
     for mistake in REMOVALS_RENEW_WRONGLY.into_iter().chain([
         Mistake::RemovalGivesCpuBack,
+        Mistake::RemovalAnswers15WhereTheBudgetRan,
         Mistake::StartSetToTime,
         Mistake::RefusedCarveForgetsRenewal,
         Mistake::RefusedCarveKeepsCharge,
@@ -189,6 +191,9 @@ fn short_lists_find_mistakes_in_calls() {
 fn damaged_areas_find_mistakes_in_question_1() {
     for mistake in [
         Mistake::SumsWrap,
+        Mistake::SumOfChargesNotAsked,
+        Mistake::SumOfMemoryReservationsNotAsked,
+        Mistake::SumOfCpuReservationsNotAsked,
         Mistake::RestNotAsked,
         Mistake::AccountsOfOthersNotAsked,
         Mistake::PayerKindNotAsked,
@@ -217,6 +222,21 @@ fn damaged_areas_find_mistakes_in_question_1() {
         let found = with(mistake, || damaged::damaged(8_000, SEED));
         assert!(found.is_err(), "{mistake:?} was not found");
     }
+}
+
+/// On areas that are damaged and still sound there is no Rust beside the port: a call must answer a
+/// number of its own. No list of calls finds this mistake.
+#[test]
+fn damaged_areas_find_numbers_that_are_not_the_call_s_own() {
+    let mistake = Mistake::RemovalAnswers15WhereAStartIsNoMultiple;
+    let by_lists = with(mistake, || runs::first_difference(100_000, SEED));
+    assert!(by_lists.is_ok());
+    let found = with(mistake, || damaged::damaged(8_000, SEED));
+    let why = found.expect_err("a difference");
+    assert!(
+        why.contains("the number is 15, which remove never"),
+        "{why}"
+    );
 }
 
 /// By this seed each of these mistakes is found after a few hundred calls on a board.

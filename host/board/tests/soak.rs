@@ -57,7 +57,7 @@ fn a_report_is_printed() {
     assert_eq!(lines[0], "seed 3, 40,000 calls, 10 % damaged areas");
     for part in [
         "the payer can't cover the charge",
-        "boards opened",
+        " came.\nOn a sound board no call gave another number.\n\nboards opened",
         "removals                 payer due       not due    clock fell\nof a budget ",
         "queue ids are distinct",
         "to repeat it: board soak --calls 40000 --seed 3\n",
@@ -168,6 +168,7 @@ mod planted {
             assert!(printed.contains(part), "{part}: {printed}");
         }
         assert!(printed.contains(", 1 difference\n"), "{printed}");
+        assert!(!printed.contains("no call gave another"), "{printed}");
         assert!(printed.contains("\"differences\":1,"), "{printed}");
         assert!(run(mistake, count).0.is_err());
         assert!(run(mistake, count - 1).0.is_ok());

@@ -44,15 +44,13 @@ pub enum Refusal {
     Kind,
     /// 14: the backing, or the new thread's kernel stack, is not there.
     Backing,
-    /// 15: the reservation of a removed budget can't be returned.
-    Return,
     /// A number that this crate doesn't know.
     Other(u64),
 }
 
 impl Refusal {
-    /// The listed refusals, by their numbers 1 to 15.
-    pub const LISTED: [Self; 15] = [
+    /// The listed refusals, by their numbers 1 to 14.
+    pub const LISTED: [Self; 14] = [
         Self::Unsound,
         Self::Share,
         Self::Tick,
@@ -67,7 +65,6 @@ impl Refusal {
         Self::Limit,
         Self::Kind,
         Self::Backing,
-        Self::Return,
     ];
 
     /// The refusal with this number.
@@ -103,7 +100,6 @@ impl Refusal {
             Self::Limit => 12,
             Self::Kind => 13,
             Self::Backing => 14,
-            Self::Return => 15,
             Self::Other(number) => number,
         }
     }
@@ -137,7 +133,6 @@ impl Refusal {
             Self::Backing => {
                 "the memory behind the object, or the thread's kernel stack, is not there"
             }
-            Self::Return => "the reservation of the removed budget can't be returned",
             Self::Other(_) => "a number that this wrapper doesn't know",
         }
     }
@@ -180,9 +175,6 @@ impl Refusal {
             Self::Kind => "Use `insert` for threads and interrupts, `create_budget` for budgets.",
             Self::Backing => {
                 "Make the memory available first, page tables, frame or kernel stack, then call again."
-            }
-            Self::Return => {
-                "A sound board never answers this: keep the board's bytes and report it."
             }
             Self::Other(_) => "Link the library that this wrapper was written for.",
         }

@@ -1,20 +1,25 @@
 -- The demands over exported calls, sentence by sentence: each theorem is drawn from `demand1`, `demand2` or `demand3`, with the fields written out. A claim that said less would
 -- be refused here. Assumes nothing.
 use mathlib.Core.Path.{_≡_, refl, sym, ap, subst, _∙_}
-use mathlib.Core.Bool.{Bool, true, false, cond, _&&_}
+use mathlib.Core.Bool.{Bool, true, false, cond, _&&_, _||_}
 use mathlib.Core.Option.{none}
 use mathlib.Core.List.{List, [], _∷_, _++_, map}
 use Prim.Native.Nat.{ℕ, _+_, _-_, _%_, _<_, _≤_}
+use native.Mathlib.Omega.{arith}
 use lib.Dec.{eqb, leb}
 use lib.ListN.{length, getD}
 use borrow.Author.Tests.{ne-eqb}
 use Rattle.carv_area.specs.Table.{at}
+use Rattle.carv_area.specs.laws.Table.{test}
 use Rattle.carv_budget.specs.Account.{due}
 use Rattle.carv_budget.specs.Panics.{AllPass}
-use Rattle.carv_objects_spec.specs.Registry.{account-of, entry, is-budget, payer-of, Registry, remove}
+use Rattle.carv_objects_spec.specs.Registry.{account-of, entry, has, is-budget, payer-of, pays-for, Registry, remove}
+use Rattle.carv_objects_spec.specs.Question15.{remove-asking-15}
 use Rattle.carv_objects_spec.specs.Book as objects
 use Rattle.carv_objects_spec.specs.Book.{Budget, Figures, budget-of, figures, is-live}
 use Rattle.carv_objects_spec.specs.Demand1 as objects-demand1
+use Rattle.carv_objects_spec.specs.laws.SoundLaws.{sound-shown}
+use Rattle.carv_objects_spec.specs.laws.Question15 as question-15
 use Rattle.carv_objects_spec.specs.laws.Removal as removal
 use Rattle.carv_objects_spec.specs.laws.Removal.{Released, Credited, budget-removed, object-removed}
 use Rattle.carv_scheduler.specs.declared.Answer.{Answer}
@@ -30,6 +35,7 @@ use Rattle.carv_scheduler_spec.specs.Runs.{run}
 use Rattle.carv_scheduler_spec.specs.Rust as rust
 use Rattle.carv_scheduler_spec.specs.Panics.{NoPanics}
 use Rattle.carv_scheduler_spec.specs.Demand1.{renewal-left}
+use Rattle.carv_scheduler_spec.specs.laws.Demand1.{leaves}
 use Rattle.carv_scheduler_spec.specs.Demand2.{rust-run}
 use Rattle.carv_scheduler_spec.specs.Demand3.{Planned}
 use Rattle.carv.specs.C.{reported, Opens, has-image, Made, Ensures, lent}
@@ -112,6 +118,34 @@ module _ (a : List ℕ) (e : Made) (h : Ensures a e) where
     pub refused-removal-leaves-bytes : (i time : ℕ) → e .call ≡ on-objects (objects.remove i time) → e .left ≡ a
     refused-removal-leaves-bytes i time c = demand1 .calls a e h .refused n x x′ .area (rw c)
 
+  -- P12: "Service staff want only codes that they can meet": no call answers 15, on any bytes
+  pub never-15 : e .returned ≡ 15 → ⊥
+  never-15 q = test (lent e)
+      (λ y. test (sound-area a)
+      (λ s. leaves (e .call) (decode a) .not-15 (sym (rules-followed y s .0) ∙ q))
+      (λ s. not-1 (damaged-refused s y .0)))
+      (λ y. not-1 (wrong-length-refused y .0))
+    where
+      not-1 : e .returned ≡ 1 → ⊥
+      not-1 p = omega (arith, p, q)
+
+  -- P12, of a removal: 1 aside it answers 0, 7, 9 or 10, and 0 wherever it passes 7, 9 and 10
+  module _ (i time : ℕ) (c : e .call ≡ on-objects (objects.remove i time)) (y : lent e ≡ true) (s : sound-area a ≡ true) where
+    number-is : e .returned ≡ remove i time (decode a .registry) .number
+    number-is = let (number, same) = rules-followed y s in rw c at number
+
+    pub removal-answers : (eqb (e .returned) 0 || eqb (e .returned) 7 || eqb (e .returned) 9 || eqb (e .returned) 10) ≡ true
+    removal-answers = subst (λ (n : ℕ). (eqb n 0 || eqb n 7 || eqb n 9 || eqb n 10) ≡ true) (sym number-is) (question-15.removal-number i time (decode a .registry))
+
+    pub removal-accepted : has (decode a .registry) i ≡ true → (i ≡ 1 → ⊥) → (is-budget (decode a .registry) i ≡ true → pays-for (decode a .registry) i ≡ false) → e .returned ≡ 0
+    removal-accepted there not-root pays-nothing =
+        number-is ∙ question-15.reached-accepted i time (decode a .registry) (question-15.reached i (decode a .registry) there not-root pays-nothing)
+
+    -- it is 01's removal, which asks question 15 too
+    pub removal-as-01 : (e .returned ≡ remove-asking-15 i time (decode a .registry) .number) × (decode (e .left) .registry ≡ remove-asking-15 i time (decode a .registry) .after)
+    removal-as-01 = let (number, same) = rules-followed y s in
+        rw (question-15.asking-15-changes-nothing i time (decode a .registry) (sound-shown (decode a .registry) (area-sound a s .registry))) (number-is, ap (λ (x : Board). x .registry) (rw c at same))
+
   -- P2, of an accepted removal
   module _ (i time : ℕ) (c : e .call ≡ on-objects (objects.remove i time)) (y : lent e ≡ true) (s : sound-area a ≡ true) (n : e .returned ≡ 0) where
     abbrev before : Registry
@@ -159,6 +193,21 @@ module _ (a : List ℕ) (e : Made) (h : Ensures a e) where
     -- no other entry changes
     pub others-stay : (j : ℕ) → (i ≡ j → ⊥) → (payer ≡ j → ⊥) → at (decode (e .left) .registry .rows) j ≡ at (before .rows) j
     others-stay j p q = subst (λ (x : Registry). at (x .rows) j ≡ at (before .rows) j) left (removal.others-stay i time j before p q)
+
+-- P12: "from every sound state a removal that reaches question 15 passes it, and .. its payer is live": of any sound area, whatever calls led to it or none
+module _ (a : List ℕ) (s : sound-area a ≡ true) (i : ℕ) (there : has (decode a .registry) i ≡ true) (not-root : i ≡ 1 → ⊥)
+    (pays-nothing : is-budget (decode a .registry) i ≡ true → pays-for (decode a .registry) i ≡ false) where
+  abbrev here : Registry
+  here = decode a .registry
+
+  pub payer-live : (has here (payer-of here i) ≡ true) × (is-budget here (payer-of here i) ≡ true) × (payer-of here i ≡ i → ⊥)
+  payer-live = question-15.payer-live i here there not-root pays-nothing (sound-shown here (area-sound a s .registry))
+
+  pub child-returnable : is-budget here i ≡ true
+      → (account-of here i .«memory_used» ≡ 0) × (account-of here i .«memory_reserved» ≡ 0) × (account-of here i .«cpu_reserved» ≡ 0)
+      × (account-of here i .«memory_limit» ≤ account-of here (payer-of here i) .«memory_reserved»)
+      × (account-of here i .«cpu_allowance» ≤ account-of here (payer-of here i) .«cpu_reserved»)
+  child-returnable = question-15.child-returnable i here there not-root pays-nothing (sound-shown here (area-sound a s .registry))
 
 -- the opening: 1 for a length, 2 for the share, which leave every byte; else the opened board, written in one way, over whatever the bytes were
 module _ (cpu memory : ℕ) (a out : List ℕ) (r : ℕ) (a′ out′ : List ℕ) (o : Opens cpu memory a out r a′ out′) where

@@ -97,12 +97,9 @@ module _ (a : Account) (h : account.sound a ≡ true) where
   spend-books ns time o e =
       books (leb ns (account.renew a time .«cpu_left»)) (account.spend (account.renew a time) ns) (account.renew a time) CpuLimitReached refl o (spend-is ns time o e)
 
-  pub return-books : (child : Account) → account.sound child ≡ true → (time : ℕ) (b : Account) → b ≡ account.renew a time
-      → (o : Outcome) → o ≡ account.release-child b child → (r : Booked) → Books (done (o .answer)) (o .account) r
-      → Books (account.returnable a child) (account.return (account.renew a time) child) r
-  return-books child k time b w o e =
-      books (account.returnable a child) (account.return (account.renew a time) child) (account.renew a time) ReservationUnderflow refl o
-      (e ∙ rw (w, renew-sound a time h, k, returnable-renewed a child time))
+  pub return-is : (child : Account) → account.sound child ≡ true → account.returnable a child ≡ true → (time : ℕ) (b : Account) → b ≡ account.renew a time
+      → (o : Outcome) → o ≡ account.release-child b child → o .account ≡ account.return (account.renew a time) child
+  return-is child k q time b w o e = ap (λ (v : Outcome). v .account) e ∙ rw (w, renew-sound a time h, k, returnable-renewed a child time, q)
 
   module _ (cpu memory time : ℕ) (o : CarveOut) (e : o ≡ account.carve-out a cpu memory time) (d : Bool) (said : d ≡ done (o .answer)) where
     carve-is : o ≡ account.carved (account.renew a time) cpu memory

@@ -260,16 +260,16 @@ module _ (a : List ℕ) (s : sound-area a ≡ true) (x i : ℕ) (h : Here no-row
       remove-in-use d = refused (remove x time) a s 10 (asks.remove-paying x time r (here-has r x i h) not-root (here-budget r x i h e q k .1) d)
 
       module _ (d : pays-for r x ≡ false) where
-        accounts : account.returnable (account-of r (payer-of r x)) (account-of r x) ≡ account.returnable y (e .account)
-        accounts = ap (λ (c : Account). account.returnable c (account-of r x)) (payer-account r S x i h e q j p y w)
-            ∙ ap (λ (c : Entry). account.returnable y (c .account)) (object-read r S x i h e q)
+        -- it can be returned
+        pub remove-returnable : account.returnable y (e .account) ≡ true
+        remove-returnable =
+            sym (ap (λ (c : Account). account.returnable c (account-of r x)) (payer-account r S x i h e q j p y w)
+            ∙ ap (λ (c : Entry). account.returnable y (c .account)) (object-read r S x i h e q))
+            ∙ kept.removal-returnable r x S (here-has r x i h) not-root (here-budget r x i h e q k .1) d
 
-        pub remove-refused : account.returnable y (e .account) ≡ false → Serves (remove x time) a (Refused 15) a
-        remove-refused b = refused (remove x time) a s 15 (asks.remove-kept x time r (here-has r x i h) not-root (here-budget r x i h e q k .1) d (accounts ∙ b))
-
-        pub remove-served : (z : Account) → (account.returnable y (e .account) ≡ true) × (z ≡ account.return (account.renew y time) (e .account))
-            → (t : Account) → t ≡ account.credit z (e .charge) → (v : Answer) (a′ : List ℕ)
+        pub remove-served : (z : Account) → z ≡ account.return (account.renew y time) (e .account) → (t : Account) → t ≡ account.credit z (e .charge)
+            → (v : Answer) (a′ : List ℕ)
             → (v ≡ Done) × Leaves a′ (with-rows (removeAt (budget (e .payer) (λ _. t) r .rows) i) r) → Serves (remove x time) a v a′
         remove-served z b t u =
-            removed (λ c. account.renew c time) t (u ∙ ap (λ (c : Account). account.credit c (e .charge)) (b .1) ∙ sym (back-read (λ c. account.renew c time)))
-            (asks.remove-budget x time r (here-has r x i h) not-root (here-budget r x i h e q k .1) d (accounts ∙ b .0))
+            removed (λ c. account.renew c time) t (u ∙ ap (λ (c : Account). account.credit c (e .charge)) b ∙ sym (back-read (λ c. account.renew c time)))
+            (asks.remove-budget x time r (here-has r x i h) not-root (here-budget r x i h e q k .1) d)

@@ -7,7 +7,7 @@ use Prim.Native.Nat.{ℕ, _<_}
 use native.Mathlib.Omega.{arith}
 use lib.Dec.{eqb}
 use borrow.Author.Tests.{ne-eqb, le-leb, lt-leb, not-true}
-use Rattle.carv_budget.specs.Account.{due, renew, returnable}
+use Rattle.carv_budget.specs.Account.{due, renew}
 use Rattle.carv_budget.specs.laws.Account.{first, second}
 use Rattle.carv_objects_spec.specs.Registry.{Registry, RegistryReply, opening}
 use Rattle.carv_objects_spec.specs.Rust as rust
@@ -19,13 +19,13 @@ use Rattle.carv_objects_spec.specs.laws.Demand2.{demand2}
 
 -- Which numbers are added.
 
--- those from 0 to 15 that pass a test
+-- those from 0 to 14 that pass a test
 abbrev pub passing : (ℕ → Bool) → List ℕ → List ℕ
 passing p [] = []
 passing p (n ∷ ns) = cond (p n) (n ∷ passing p ns) (passing p ns)
 
 abbrev pub those : (ℕ → Bool) → List ℕ
-those p = passing p (0 ∷ 1 ∷ 2 ∷ 3 ∷ 4 ∷ 5 ∷ 6 ∷ 7 ∷ 8 ∷ 9 ∷ 10 ∷ 11 ∷ 12 ∷ 13 ∷ 14 ∷ 15 ∷ [])
+those p = passing p (0 ∷ 1 ∷ 2 ∷ 3 ∷ 4 ∷ 5 ∷ 6 ∷ 7 ∷ 8 ∷ 9 ∷ 10 ∷ 11 ∷ 12 ∷ 13 ∷ 14 ∷ [])
 
 -- "numbers marked +"
 abbrev pub marked : List ℕ
@@ -65,22 +65,22 @@ read-account-added i = refl
 pub charge-of-added : (i : ℕ) → those (is-added (charge-of i)) ≡ marked
 charge-of-added i = refl
 
--- and no number above 15
-above-15 : (n : ℕ) → 15 < n → added n ≡ false
-above-15 n h = rw (le-leb 1 n (omega arith), lt-leb n 6 (omega arith), ne-eqb n 11 (λ q. omega arith))
+-- and no number above 14
+above-14 : (n : ℕ) → 14 < n → added n ≡ false
+above-14 n h = rw (le-leb 1 n (omega arith), lt-leb n 6 (omega arith), ne-eqb n 11 (λ q. omega arith))
 
-pub no-more-added : (c : Call) (n : ℕ) → 15 < n → is-added c n ≡ false
-no-more-added (create kind payer backing) n h = above-15 n h
-no-more-added (insert kind payer bytes) n h = above-15 n h
-no-more-added (create-budget parent cpu memory time) n h = above-15 n h
-no-more-added (charge-more i bytes) n h = above-15 n h
-no-more-added (uncharge i bytes) n h = rw (above-15 n h, ne-eqb n 7 (λ q. omega arith))
-no-more-added (remove i time) n h = above-15 n h
-no-more-added (refill i time) n h = above-15 n h
-no-more-added (charge-cpu i ns time) n h = above-15 n h
-no-more-added (pays-for-anything i) n h = above-15 n h
-no-more-added (read-account i) n h = above-15 n h
-no-more-added (charge-of i) n h = above-15 n h
+pub no-more-added : (c : Call) (n : ℕ) → 14 < n → is-added c n ≡ false
+no-more-added (create kind payer backing) n h = above-14 n h
+no-more-added (insert kind payer bytes) n h = above-14 n h
+no-more-added (create-budget parent cpu memory time) n h = above-14 n h
+no-more-added (charge-more i bytes) n h = above-14 n h
+no-more-added (uncharge i bytes) n h = rw (above-14 n h, ne-eqb n 7 (λ q. omega arith))
+no-more-added (remove i time) n h = above-14 n h
+no-more-added (refill i time) n h = above-14 n h
+no-more-added (charge-cpu i ns time) n h = above-14 n h
+no-more-added (pays-for-anything i) n h = above-14 n h
+no-more-added (read-account i) n h = above-14 n h
+no-more-added (charge-of i) n h = above-14 n h
 
 -- Lists of calls that meet none.
 
@@ -124,7 +124,7 @@ renewals = charge-cpu 1 9_700_000 0 answers 0 ∷ refill 1 9_999_999 answers 0 �
 abbrev pub carve : (memory : ℕ) → List Numbered
 carve memory = charge-cpu 1 9_700_000 0 answers 0 ∷ create-budget 1 0 memory 25_000_000 answers 12 ∷ []
 
--- each call with each number that it has from the Rust; 15 never comes on a sound registry. Budget 2 has 1,000 ns and 64 bytes
+-- each call with each number that it has from the Rust. Budget 2 has 1,000 ns and 64 bytes
 abbrev pub every : List Numbered
 every =
     create-budget 1 1_000 64 0 answers 0 ∷ create-budget 9 0 0 0 answers 7 ∷ create-budget 2 0 0 0 answers 12
@@ -162,7 +162,7 @@ meets memory ns a h =
     record { numbered = a; none = n; as-rust = same; rust-numbered = sym (ap numbers-in same) ∙ replied (calls-of ns) (opening 10_000_000 memory) ∙ ap told a }
 
 pub frames-meet : Meets 10_000_000 1_000_000 frames
-unfolding due renew returnable
+unfolding due renew
 frames-meet = meets 1_000_000 frames refl refl
 
 pub renewals-meet : Meets 10_000_000 1_000_000 renewals
@@ -178,10 +178,10 @@ unfolding due renew
 carve-128-meets = meets 128 (carve 1) refl refl
 
 pub every-meets : Meets 10_000_000 1_000_000 every
-unfolding due renew returnable
+unfolding due renew
 every-meets = meets 1_000_000 every refl refl
 
--- `every` meets each call, and of each call these numbers: 0 and those of 01's questions before it that are not marked +, but 15.
+-- `every` meets each call, and of each call these numbers: 0 and those of 01's questions before it that are not marked +, but 15, which P12 drops.
 
 -- which call it is
 abbrev which : Call → ℕ

@@ -7,7 +7,7 @@ use Prim.Native.Nat.{ℕ}
 use lib.Dec.{eqb}
 use Rattle.carv_area.specs.Table.{Row}
 use Rattle.carv_budget.specs.declared.Account.{Account}
-use Rattle.carv_budget.specs.Account.{blank, due, renew, returnable}
+use Rattle.carv_budget.specs.Account.{blank, due, renew}
 use Rattle.carv_objects_spec.specs.declared.Entry.{Entry}
 use Rattle.carv_objects_spec.specs.Reply.{Value, id, renewed, pays, of-account, charge}
 use Rattle.carv_objects_spec.specs.Registry.{Registry, RegistryReply, entry, has, account-of, opening, create, create-budget, uncharge, remove, refill, charge-cpu}
@@ -174,5 +174,5 @@ unfolding low due renew
 low-is memory = refl
 
 pub edges-hold : all edges ≡ true
-unfolding edges due renew returnable
+unfolding edges due renew
 edges-hold = rw (frame-is, carve-is, second-is, full-is, empty-is, low-is 1_000_000, low-is 127, low-is 128)

@@ -417,7 +417,7 @@ module _ (r : Registry) (k : Book) (s : Sound r) (F : FollowsRegistry r k) where
 
   remove-follows : (i t : ℕ) → Written (remove i t) k (run (remove i t) r)
   remove-follows i t =
-      calls.remove-cases (Written (remove i t) k) i t r s (λ q h h′. rw h (test (eqb q 12) (λ a. rw a F) (λ a. rw a F)))
+      calls.remove-cases (Written (remove i t) k) i t r s (λ q h. rw h (test (eqb q 12) (λ a. rw a F) (λ a. rw a F)))
       λ e y O not-root u.
       let (o, there, m) = object-page r k F i e (O .here) in
       let low = s .each i e (O .here) .lower not-root in

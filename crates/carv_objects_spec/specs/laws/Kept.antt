@@ -15,10 +15,12 @@ use Rattle.carv_budget.specs.declared.Account.{Account}
 use Rattle.carv_budget.specs.Account.{period, free, renew, due, spend, charge, credit, reserve, return, returnable}
 use Rattle.carv_budget.specs.Account as account
 use Rattle.carv_budget.specs.laws.Account as account-laws
+use Rattle.carv_budget.specs.laws.Account.{Returnable}
 use Rattle.carv_objects_spec.specs.declared.Entry.{Entry}
 use Rattle.carv_objects_spec.specs.Reply.{refuse, accept, id, renewed}
 use Rattle.carv_objects_spec.specs.laws.Asked.{asked}
 use Rattle.carv_objects_spec.specs.Registry.{Registry, RegistryReply, or-missing, entry, has, is-budget, account-of, payer-of, pays-in, pays-for, budget, renew-if, listed, bytes-of, creatable, needs-backing, has-place, has-next, plain, carved, opening, create, insert, create-budget, charge-more, uncharge, remove, refill, charge-cpu, charge-most}
+use Rattle.carv_objects_spec.specs.Question15.{Passed}
 use Rattle.carv_objects_spec.specs.Sound.{kind-at, charge-by, memory-by, cpu-by}
 use Rattle.carv_objects_spec.specs.laws.SoundFacts.{SoundEntry, Sound}
 use Rattle.carv_objects_spec.specs.laws.SoundLaws.{account-sound}
@@ -337,64 +339,66 @@ unpaid r i s not-root h j d at-j q = test (is-budget r i)
     (λ b. not-paying (r .rows) i (rw a at h) j d (eqb-false i j b) at-j q))
     (λ a. eqb-false (kind-at (r .rows) i) 6 a (rw q (s .each j d at-j .paid)))
 
-pub returnable-shown : {a child : Account} → account-laws.Returnable a child → returnable a child ≡ true
-unfolding returnable
-returnable-shown h = search (account-laws.both, le-leb, eq-eqb)
-
 -- a budget that is no entry's payer can be returned
-unpaid-returnable : (r : Registry) (i : ℕ) (e y : Entry) → Sound r → ObjectEntry r i e y → (i ≡ 1 → ⊥) → Unpaid r i
-    → returnable (y .account) (e .account) ≡ true
+unpaid-returnable : (r : Registry) (i : ℕ) (e y : Entry) → Sound r → ObjectEntry r i e y → (i ≡ 1 → ⊥) → Unpaid r i → Returnable (y .account) (e .account)
 unpaid-returnable r i e y s O not-root u =
     let F = s .each i e (O .here) in
     let w = limits-within r i e y s O not-root in
     let z = unpaid-weight r i s u in
-    returnable-shown (record {
+    record {
       no-cpu = F .cpu-reserved ∙ z .cpu;
       no-memory = F .memory-reserved ∙ z .memory;
       no-use = F .used ∙ z .charge;
       cpu = w .cpu;
       memory = w .memory;
-    })
+    }
 
--- the entry of an object's payer, as it reads
-payer-read : (r : Registry) (i : ℕ) (e y : Entry) → ObjectEntry r i e y → entry r (payer-of r i) ≡ y
-payer-read r i e y O = ap (λ (x : Entry). entry r (x .payer)) (O .read) ∙ O .payer .read
+returnable-shown : {a child : Account} → Returnable a child → returnable a child ≡ true
+unfolding returnable
+returnable-shown h = search (account-laws.both, le-leb, eq-eqb)
 
--- so a removal that passes question 10 passes question 15, and credits a live budget
-pub removal-returnable : (r : Registry) (i : ℕ) → Sound r → (i ≡ 1 → ⊥) → is-budget r i ≡ true → pays-for r i ≡ false
-    → (returnable (account-of r (payer-of r i)) (account-of r i) ≡ true) × (is-budget r (payer-of r i) ≡ true)
-removal-returnable r i s not-root h k =
-    let (b, B) = live-budget r i h in
-    let (e, y, O) = live-object r i s (rw (B .here) refl) in
-    let u = unpaid r i s not-root (rw (h, k)) in
-    let p = payer-read r i e y O in (
-      subst (λ (x : Entry). returnable (x .account) (account-of r i) ≡ true) (sym p)
-          (subst (λ (x : Entry). returnable (y .account) (x .account) ≡ true) (sym (O .read)) (unpaid-returnable r i e y s O not-root u)),
-      eq-eqb (entry r (payer-of r i) .kind) 6 (ap (λ (x : Entry). x .kind) p ∙ O .payer .kind),
-    )
+-- so a removal that passes questions 7, 9 and 10 passes question 15, and credits a live budget
+pub removal-passes : (i : ℕ) (r : Registry) → Sound r → has r i ≡ true → (i ≡ 1 → ⊥) → (is-budget r i && pays-for r i) ≡ false → Passed i r
+removal-passes i r s a not-root idle =
+    let (e, y, O) = live-object r i s a in
+    let low = s .each i e (O .here) .lower not-root in
+    let payer : payer-of r i ≡ e .payer = ap (λ (x : Entry). x .payer) (O .read) in
+    let read : entry r (payer-of r i) ≡ y = ap (λ (p : ℕ). entry r p) payer ∙ O .payer .read in
+    let returns : Returnable (account-of r (payer-of r i)) (account-of r i)
+    = subst (λ (x : Entry). Returnable (x .account) (account-of r i)) (sym read)
+    (subst (λ (x : Entry). Returnable (y .account) (x .account)) (sym (O .read)) (unpaid-returnable r i e y s O not-root (unpaid r i s not-root idle))) in
+    record {
+      payer-live = rw (payer, O .payer .here);
+      payer-budget = eq-eqb (entry r (payer-of r i) .kind) 6 (ap (λ (x : Entry). x .kind) read ∙ O .payer .kind);
+      payer-other = λ q. omega (arith, payer, q);
+      passed = test (is-budget r i) (λ b. rw (b, returnable-shown returns)) (λ b. rw b);
+      no-use = λ _. returns .no-use;
+      no-memory-reserved = λ _. returns .no-memory;
+      no-cpu-reserved = λ _. returns .no-cpu;
+      memory-within = λ _. returns .memory;
+      cpu-within = λ _. returns .cpu;
+    }
 
--- of a sound registry, `remove` answers 0, 7, 9 or 10
-pub remove-cases : (P : RegistryReply → Type 0) (i t : ℕ) (r : Registry) → Sound r → StaysBut 15 P r
+pub removal-returnable : (r : Registry) (i : ℕ) → Sound r → has r i ≡ true → (i ≡ 1 → ⊥) → is-budget r i ≡ true → pays-for r i ≡ false
+    → returnable (account-of r (payer-of r i)) (account-of r i) ≡ true
+removal-returnable r i s a not-root b d = rw b at (removal-passes i r s a not-root (rw (b, d)) .passed)
+
+-- `remove` goes through, or is refused with 7, 9 or 10
+pub remove-cases : (P : RegistryReply → Type 0) (i t : ℕ) (r : Registry) → Sound r → Stays P r
     → ((e y : Entry) → ObjectEntry r i e y → (i ≡ 1 → ⊥) → Unpaid r i → P (accept none (removed r i e (release e t))))
     → P (remove i t r)
 remove-cases P i t r s stay go =
-    asked P (has r i) (stay 7 refl refl) λ a.
-    asked P (not (eqb i 1)) (stay 9 refl refl) λ b.
-    asked P (not (is-budget r i && pays-for r i)) (stay 10 refl refl) λ c.
+    asked P (has r i) (stay 7 refl) λ a.
+    asked P (not (eqb i 1)) (stay 9 refl) λ b.
+    asked P (not (is-budget r i && pays-for r i)) (stay 10 refl) λ c.
     let not-root = eqb-false i 1 (not-true (eqb i 1) b) in
     let idle = not-true (is-budget r i && pays-for r i) c in
-    let d : (not (is-budget r i) || returnable (account-of r (payer-of r i)) (account-of r i)) ≡ true = test (is-budget r i)
-    (λ h. rw h (removal-returnable r i s not-root h (rw h at idle) .0))
-    (λ h. rw h) in
     let (e, y, O) = live-object r i s a in
-    rw d (subst (λ (x : Entry). P (accept none (removed r i x (release x t)))) (sym (O .read)) (go e y O not-root (unpaid r i s not-root idle)))
-
-pub remove-not-15 : (i t : ℕ) (r : Registry) → Sound r → eqb (remove i t r .number) 15 ≡ false
-remove-not-15 i t r s = remove-cases (λ a. eqb (a .number) 15 ≡ false) i t r s (λ q h k. k) λ e y O not-root u. refl
+    subst (λ (x : Entry). P (accept none (removed r i x (release x t)))) (sym (O .read)) (go e y O not-root (unpaid r i s not-root idle))
 
 pub remove-kept : (i t : ℕ) (r : Registry) → Sound r → Sound (remove i t r .after)
 remove-kept i t r s =
-    remove-cases (λ a. Sound (a .after)) i t r s (λ q h k. s) λ e y O not-root u.
+    remove-cases (λ a. Sound (a .after)) i t r s (λ q h. s) λ e y O not-root u.
     let k = charge-within r i e y s O in
     let w = limits-within r i e y s O not-root in
     let m = renew-if-moves (eqb (e .kind) 6) (y .account) t (budget-sound s (O .payer)) in

@@ -9,7 +9,7 @@ use native.Mathlib.Omega.{arith}
 use lib.ListN.{length}
 use borrow.Author.Tests.{le-leb, lt-leb, le-ltb, lt-ltb}
 use Rattle.carv_area.specs.Table.{Row}
-use Rattle.carv_budget.specs.Account.{fresh, due, renew, returnable}
+use Rattle.carv_budget.specs.Account.{fresh, due, renew}
 use Rattle.carv_objects_spec.specs.declared.Entry.{Entry}
 use Rattle.carv_objects_spec.specs.Refused as refused
 use Rattle.carv_objects_spec.specs.Book as book
@@ -58,8 +58,8 @@ numbers (x ∷ xs) = x .number ∷ numbers xs
 pub record Limits : Type 0 where
   -- the refusal numbers, by their names
   pub refusals : refused.unsound ∷ refused.share ∷ refused.tick ∷ refused.code ∷ refused.id ∷ refused.full ∷ refused.missing ∷ refused.state ∷ refused.root ∷ refused.pays
-      ∷ refused.charge ∷ refused.limit ∷ refused.kind ∷ refused.backing ∷ refused.return ∷ []
-      ≡ 1 ∷ 2 ∷ 3 ∷ 4 ∷ 5 ∷ 6 ∷ 7 ∷ 8 ∷ 9 ∷ 10 ∷ 11 ∷ 12 ∷ 13 ∷ 14 ∷ 15 ∷ []
+      ∷ refused.charge ∷ refused.limit ∷ refused.kind ∷ refused.backing ∷ []
+      ≡ 1 ∷ 2 ∷ 3 ∷ 4 ∷ 5 ∷ 6 ∷ 7 ∷ 8 ∷ 9 ∷ 10 ∷ 11 ∷ 12 ∷ 13 ∷ 14 ∷ []
   -- "4. Is each kind .. listed?" "13. Is a created kind 2, 3, 4, 5 or 7?" "14. Is the backing there?": with the backing there, and without it
   pub create-kinds : by-kind (λ k. create k 1 true root .number) ≡ 4 ∷ 13 ∷ 0 ∷ 0 ∷ 0 ∷ 0 ∷ 13 ∷ 0 ∷ 13 ∷ 13 ∷ 4 ∷ []
   pub create-unbacked : by-kind (λ k. create k 1 false root .number) ≡ 4 ∷ 13 ∷ 14 ∷ 14 ∷ 0 ∷ 0 ∷ 13 ∷ 0 ∷ 13 ∷ 13 ∷ 4 ∷ []
@@ -127,7 +127,7 @@ pub record Limits : Type 0 where
   pub sound-512 : (r : Registry) → sound r ≡ true → length (r .rows) ≤ 512
 
 pub limits-hold : Limits
-unfolding due renew returnable
+unfolding due renew
 limits-hold = record {
   refusals = refl;
   create-kinds = refl;

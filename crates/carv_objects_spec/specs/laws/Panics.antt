@@ -331,7 +331,7 @@ onward (charge-more i bytes) r s =
 onward (uncharge i bytes) r s =
     calls.uncharge-cases (λ a. Onward r (a .after)) i bytes r s (λ _ _. stays r) λ e y _ _. charged-onward r s i e _ _ (λ _. refl)
 onward (remove i time) r s =
-    calls.remove-cases (λ a. Onward r (a .after)) i time r s (λ _ _ _. stays r) λ e y O not-root _.
+    calls.remove-cases (λ a. Onward r (a .after)) i time r s (λ _ _. stays r) λ e y O not-root _.
     removed-onward r s i e _ not-root (calls.renew-if-moves (eqb (e .kind) 6) (y .account) time (calls.budget-sound s (O .payer)) .limit)
 onward (refill i time) r s =
     calls.refill-cases (λ a. Onward r (a .after)) i time r (λ _ _. stays r) λ e B. account-onward r i _ (λ a. renew-limit a time)

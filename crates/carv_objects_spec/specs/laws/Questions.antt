@@ -124,12 +124,9 @@ module _ (i time : ℕ) (r : Registry) where
       pub remove-paying : is-budget r i ≡ true → pays-for r i ≡ true → remove i time r ≡ refuse 10 r
       remove-paying c d = rw (a, ne-eqb i 1 b, c, d)
 
-      pub remove-kept : is-budget r i ≡ true → pays-for r i ≡ false → account.returnable (account-of r (payer-of r i)) (account-of r i) ≡ false → remove i time r ≡ refuse 15 r
-      remove-kept c d e = rw (a, ne-eqb i 1 b, c, d, e)
-
-      pub remove-budget : is-budget r i ≡ true → pays-for r i ≡ false → account.returnable (account-of r (payer-of r i)) (account-of r i) ≡ true
+      pub remove-budget : is-budget r i ≡ true → pays-for r i ≡ false
           → remove i time r ≡ accept none (budget (payer-of r i) (λ a. account.credit (account.return (account.renew a time) (account-of r i)) (entry r i .charge)) (drop i r))
-      remove-budget c d e = rw (a, ne-eqb i 1 b, c, d, e)
+      remove-budget c d = rw (a, ne-eqb i 1 b, c, d)
 
       pub remove-object : is-budget r i ≡ false
           → remove i time r ≡ accept none (budget (payer-of r i) (λ a. account.credit (account.return a (account-of r i)) (entry r i .charge)) (drop i r))

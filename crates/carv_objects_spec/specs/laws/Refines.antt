@@ -349,7 +349,7 @@ remove-rust i time r s = look (at (r .rows) i)
     (λ b. test (r01.pays-for r i)
     (λ w. let w′ = sym (pays-is i (r .rows)) ∙ w in rw (b, w, w′))
     (λ w. let w′ = sym (pays-is i (r .rows)) ∙ w in
-    let t = removal-returnable r i s (eqb-false i 1 d) b w .0 in rw (b, w, w′, t) (returned r s i q d time t)))
+    let t = removal-returnable r i s (ap r01.found q) (eqb-false i 1 d) b w in rw (b, w, w′) (returned r s i q d time t)))
     (λ b. rw b (ap (λ (x : Registry). accept {A = Value} none x) (plain-credited r s i q d b))))))
 
 -- P2 changes nothing else: where no budget is removed, or one whose payer is not due, that is carv-os' own removal
@@ -362,8 +362,7 @@ remove-unrenewed-is i time r s h = look (at (r .rows) i) (λ q. rw q)
     (λ b. test (r01.pays-for r i)
     (λ w. let w′ = sym (pays-is i (r .rows)) ∙ w in rw (b, w′))
     (λ w. let w′ = sym (pays-is i (r .rows)) ∙ w in
-    let t = removal-returnable r i s (eqb-false i 1 d) b w .0 in
-    let accepted = ap (λ (z : r01.RegistryReply). z .number) (asks.remove-budget i time r (ap r01.found q) (eqb-false i 1 d) b w t) in
+    let accepted = ap (λ (z : r01.RegistryReply). z .number) (asks.remove-budget i time r (ap r01.found q) (eqb-false i 1 d) b w) in
     rw (b, w′) (not-due r s i q d time (h accepted b))))
     (λ b. rw b))))
 
@@ -431,7 +430,7 @@ remove-refilled i time r s b n = look (at (r .rows) i)
     λ q. test (eqb i 1) (λ d. let z : 9 ≡ 0 = rw (q, d) at n in absurd (omega arith)) λ d.
     test (r01.pays-for r i) (λ w. let z : 10 ≡ 0 = rw (q, d, b, w) at n in absurd (omega arith)) λ w.
     let w′ = sym (pays-is i (r .rows)) ∙ w in
-    let t = removal-returnable r i s (eqb-false i 1 d) b w .0 in
+    let t = removal-returnable r i s (ap r01.found q) (eqb-false i 1 d) b w in
     let x = account.renew (account-of r (payer-of r i)) time in
     let v = sym (pays-is i (write (payer-of r i) x r .rows)) ∙ pays-aside i (payer-of r i) x (r .rows) ∙ w in
     rw (refilled-is (payer-of r i) time r (payer-there r s i q), same-entry r s i q d time t, q, d, b, w′, v) (both-returned r s i q d time t)

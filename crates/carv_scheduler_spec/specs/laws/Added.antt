@@ -7,7 +7,7 @@ use Prim.Native.Nat.{ℕ, _<_}
 use native.Mathlib.Omega.{arith}
 use lib.Dec.{eqb}
 use borrow.Author.Tests.{ne-eqb, le-leb, lt-leb, not-true}
-use Rattle.carv_budget.specs.Account.{due, renew, returnable}
+use Rattle.carv_budget.specs.Account.{due, renew}
 use Rattle.carv_budget.specs.laws.Account.{first, second}
 use Rattle.carv_objects_spec.specs.Refused.{added}
 use Rattle.carv_objects_spec.specs.Book as objects
@@ -67,24 +67,24 @@ read-switches-added = refl
 pub exit-of-added : (i : ℕ) → those (is-added (exit-of i)) ≡ marked
 exit-of-added i = refl
 
--- and no number above 15
-above-15 : (n : ℕ) → 15 < n → added n ≡ false
-above-15 n h = rw (le-leb 1 n (omega arith), lt-leb n 6 (omega arith), ne-eqb n 11 (λ q. omega arith))
+-- and no number above 14
+above-14 : (n : ℕ) → 14 < n → added n ≡ false
+above-14 n h = rw (le-leb 1 n (omega arith), lt-leb n 6 (omega arith), ne-eqb n 11 (λ q. omega arith))
 
-pub no-more-added : (c : Call) (n : ℕ) → 15 < n → is-added c n ≡ false
+pub no-more-added : (c : Call) (n : ℕ) → 14 < n → is-added c n ≡ false
 no-more-added (on-objects c) n h = registry-added.no-more-added c n h
-no-more-added (create-user-thread i budget stack) n h = above-15 n h
-no-more-added (start i space cspace root context) n h = above-15 n h
-no-more-added (block-current kind number) n h = rw (above-15 n h, ne-eqb n 8 (λ q. omega arith))
-no-more-added (wake i r) n h = above-15 n h
-no-more-added (is-blocked-on i kind number) n h = above-15 n h
-no-more-added (kill i cause) n h = above-15 n h
-no-more-added (tick m) n h = above-15 n h
-no-more-added (plan m) n h = above-15 n h
-no-more-added (read-thread i) n h = above-15 n h
-no-more-added read-current n h = above-15 n h
-no-more-added read-switches n h = above-15 n h
-no-more-added (exit-of i) n h = above-15 n h
+no-more-added (create-user-thread i budget stack) n h = above-14 n h
+no-more-added (start i space cspace root context) n h = above-14 n h
+no-more-added (block-current kind number) n h = rw (above-14 n h, ne-eqb n 8 (λ q. omega arith))
+no-more-added (wake i r) n h = above-14 n h
+no-more-added (is-blocked-on i kind number) n h = above-14 n h
+no-more-added (kill i cause) n h = above-14 n h
+no-more-added (tick m) n h = above-14 n h
+no-more-added (plan m) n h = above-14 n h
+no-more-added (read-thread i) n h = above-14 n h
+no-more-added read-current n h = above-14 n h
+no-more-added read-switches n h = above-14 n h
+no-more-added (exit-of i) n h = above-14 n h
 
 -- Lists of calls that meet none.
 
@@ -164,7 +164,7 @@ on-board-fits [] = tt
 on-board-fits (n ∷ ns) = (tt, on-board-fits ns)
 
 pub frames-meet : Meets 10_000_000 1_000_000 (on-board registry-added.frames)
-unfolding due renew returnable
+unfolding due renew
 frames-meet = meets 1_000_000 (on-board registry-added.frames) (on-board-fits registry-added.frames) refl refl
 
 pub renewals-meet : Meets 10_000_000 1_000_000 (on-board registry-added.renewals)
@@ -180,7 +180,7 @@ unfolding due renew
 carve-128-meets = meets 128 (on-board (registry-added.carve 1)) (on-board-fits (registry-added.carve 1)) refl refl
 
 pub every-object-meets : Meets 10_000_000 1_000_000 (on-board registry-added.every)
-unfolding due renew returnable
+unfolding due renew
 every-object-meets = meets 1_000_000 (on-board registry-added.every) (on-board-fits registry-added.every) refl refl
 
 pub alone-meets : Meets 10_000_000 1_000_000 alone

@@ -1,11 +1,13 @@
--- A refused call leaves what specs/Demand1.antt says, and no call on a board answers 1. Assumes nothing.
+-- A refused call leaves what specs/Demand1.antt says, and no call on a board answers 1 or 15. Assumes nothing.
 use mathlib.Core.Path.{_≡_, refl, sym, ap, _∙_}
-use mathlib.Core.Bool.{Bool, true, false, cond, not}
+use mathlib.Core.Bool.{Bool, true, false, cond, not, _&&_}
 use mathlib.Core.Option.{Option, none}
-use Prim.Native.Nat.{ℕ, _≤_}
+use Prim.Native.Nat.{ℕ}
 use native.Mathlib.Omega.{arith}
-use lib.Dec.{eqb, ltb}
+use lib.Dec.{eqb, ltb, leb}
 use lib.ListN.{length}
+use borrow.Author.Tests.{leb-true, eqb-false, not-true}
+use Rattle.carv_budget.specs.laws.Account.{first, second}
 use Rattle.carv_objects_spec.specs.Reply.{refuse}
 use Rattle.carv_objects_spec.specs.Registry.{Registry}
 use Rattle.carv_objects_spec.specs.laws.Demand1 as objects
@@ -15,46 +17,55 @@ use Rattle.carv_scheduler_spec.specs.Book.{Call, on-objects, create-user
 use Rattle.carv_scheduler_spec.specs.Runs.{run}
 use Rattle.carv_scheduler_spec.specs.Demand1.{renewal-left, with-renewal}
 
--- what is shown of a reply: refused, it leaves b; and its number is not 1
+-- what is shown of a reply: refused, it leaves b; and its number is neither 1 nor 15
 record Keeps (b : Board) (z : BoardReply) : Type 0 where
   left : (z .number ≡ 0 → ⊥) → z .after ≡ b
   not-one : z .number ≡ 1 → ⊥
+  not-15 : z .number ≡ 15 → ⊥
 
 accepted : (b : Board) (z : BoardReply) → z .number ≡ 0 → Keeps b z
-accepted b z e = record { left = λ q. absurd (q e); not-one = λ q. omega (arith, e, q) }
+accepted b z e = record { left = λ q. absurd (q e); not-one = λ q. omega (arith, e, q); not-15 = λ q. omega (arith, e, q) }
 
--- a question past 1 that is missed
-ask : (n : ℕ) (c : Bool) (b : Board) {k : BoardReply} → 2 ≤ n → Keeps b k → Keeps b (cond c k (refuse n b))
+-- a question that is missed, its number neither 0, 1 nor 15
+abbrev answerable : ℕ → Bool
+answerable n = leb 2 n && not (eqb n 15)
+
+ask : (n : ℕ) (c : Bool) (b : Board) {k : BoardReply} → answerable n ≡ true → Keeps b k → Keeps b (cond c k (refuse n b))
 ask n true b h k = k
-ask n false b h k = record { left = λ q. refl; not-one = λ q. omega arith }
+ask n false b h k = record {
+  left = λ q. refl;
+  not-one = λ q. let low = leb-true 2 n (first (leb 2 n) _ h) in omega arith;
+  not-15 = eqb-false n 15 (not-true (eqb n 15) (second (leb 2 n) _ h));
+}
 
--- what a call that is refused leaves, and that it is not refused with 1
+-- what a call that is refused leaves, and that it is not refused with 1. P12: nor with 15
 pub record Leaves (c : Call) (b : Board) : Type 0 where
   pub left : (run c b .number ≡ 0 → ⊥) → run c b .after ≡ with-renewal (renewal-left c (run c b .number) b) b
   pub not-one : run c b .number ≡ 1 → ⊥
+  pub not-15 : run c b .number ≡ 15 → ⊥
 
 kept : (c : Call) (b : Board) → ((n : ℕ) → renewal-left c n b ≡ none) → Keeps b (run c b) → Leaves c b
-kept c b h k = record { left = λ q. k .left q ∙ ap (λ (o : Option (ℕ × ℕ)). with-renewal o b) (sym (h (run c b .number))); not-one = k .not-one }
+kept c b h k = record { left = λ q. k .left q ∙ ap (λ (o : Option (ℕ × ℕ)). with-renewal o b) (sym (h (run c b .number))); not-one = k .not-one; not-15 = k .not-15 }
 
 pub leaves : (c : Call) (b : Board) → Leaves c b
 leaves (on-objects c) b = let h = objects.leaves c (b .registry) in
-    record { left = λ q. ap (λ (r : Registry). scheduler.with-registry r b) (h .left q); not-one = h .not-one }
+    record { left = λ q. ap (λ (r : Registry). scheduler.with-registry r b) (h .left q); not-one = h .not-one; not-15 = h .not-15 }
 leaves (create-user-thread i budget stack) b = kept (create-user-thread i budget stack) b (λ n. refl)
-    (ask 5 (not (has (b .threads) i)) b (omega arith) (ask 5 (not (eqb i 0)) b (omega arith) (ask 5 (not (eqb i idle)) b (omega arith)
-    (ask 6 (ltb (length (b .threads)) most-threads) b (omega arith) (ask 14 stack b (omega arith) (accepted b _ refl))))))
+    (ask 5 (not (has (b .threads) i)) b refl (ask 5 (not (eqb i 0)) b refl (ask 5 (not (eqb i idle)) b refl
+    (ask 6 (ltb (length (b .threads)) most-threads) b refl (ask 14 stack b refl (accepted b _ refl))))))
 leaves (start i space cspace root context) b = kept (start i space cspace root context) b (λ n. refl)
-    (ask 7 (has (b .threads) i) b (omega arith) (ask 8 (is inactive (thread (b .threads) i)) b (omega arith) (accepted b _ refl)))
+    (ask 7 (has (b .threads) i) b refl (ask 8 (is inactive (thread (b .threads) i)) b refl (accepted b _ refl)))
 leaves (block-current kind number) b = kept (block-current kind number) b (λ n. refl)
-    (ask 4 (wait-listed kind) b (omega arith) (ask 8 (is running (thread (b .threads) (b .current))) b (omega arith)
-    (ask 8 (not (eqb (b .current) idle)) b (omega arith) (accepted b _ refl))))
+    (ask 4 (wait-listed kind) b refl (ask 8 (is running (thread (b .threads) (b .current))) b refl
+    (ask 8 (not (eqb (b .current) idle)) b refl (accepted b _ refl))))
 leaves (wake i r) b = kept (wake i r) b (λ n. refl)
-    (ask 7 (has (b .threads) i) b (omega arith) (ask 8 (is blocked (thread (b .threads) i)) b (omega arith) (accepted b _ refl)))
-leaves (is-blocked-on i kind number) b = kept (is-blocked-on i kind number) b (λ n. refl) (ask 4 (wait-listed kind) b (omega arith) (accepted b _ refl))
+    (ask 7 (has (b .threads) i) b refl (ask 8 (is blocked (thread (b .threads) i)) b refl (accepted b _ refl)))
+leaves (is-blocked-on i kind number) b = kept (is-blocked-on i kind number) b (λ n. refl) (ask 4 (wait-listed kind) b refl (accepted b _ refl))
 leaves (kill i cause) b = kept (kill i cause) b (λ n. refl)
-    (ask 4 (cause-listed cause) b (omega arith) (ask 5 (not (eqb i idle)) b (omega arith) (ask 7 (has (b .threads) i) b (omega arith) (accepted b _ refl))))
-leaves (tick m) b = kept (tick m) b (λ n. refl) (ask 3 (tick-fits m) b (omega arith) (accepted b _ refl))
-leaves (plan m) b = kept (plan m) b (λ n. refl) (ask 3 (tick-fits m) b (omega arith) (accepted b _ refl))
-leaves (read-thread i) b = kept (read-thread i) b (λ n. refl) (ask 7 (has (b .threads) i) b (omega arith) (accepted b _ refl))
+    (ask 4 (cause-listed cause) b refl (ask 5 (not (eqb i idle)) b refl (ask 7 (has (b .threads) i) b refl (accepted b _ refl))))
+leaves (tick m) b = kept (tick m) b (λ n. refl) (ask 3 (tick-fits m) b refl (accepted b _ refl))
+leaves (plan m) b = kept (plan m) b (λ n. refl) (ask 3 (tick-fits m) b refl (accepted b _ refl))
+leaves (read-thread i) b = kept (read-thread i) b (λ n. refl) (ask 7 (has (b .threads) i) b refl (accepted b _ refl))
 leaves read-current b = kept read-current b (λ n. refl) (accepted b _ refl)
 leaves read-switches b = kept read-switches b (λ n. refl) (accepted b _ refl)
 leaves (exit-of i) b = kept (exit-of i) b (λ n. refl) (accepted b _ refl)

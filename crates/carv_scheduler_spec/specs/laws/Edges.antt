@@ -7,7 +7,7 @@ use mathlib.Core.List.{List, [], _∷_}
 use Prim.Native.Nat.{ℕ, zero, suc, _+_}
 use lib.ListN.{length}
 use Rattle.carv_budget.specs.declared.Account.{Account}
-use Rattle.carv_budget.specs.Account.{due, renew, returnable}
+use Rattle.carv_budget.specs.Account.{due, renew}
 use Rattle.carv_objects_spec.specs.Reply.{refuse, accept, id, renewed, charge}
 use Rattle.carv_objects_spec.specs.Registry.{account-of, create, create-budget, uncharge, remove, refill, charge-cpu, charge-of}
 use Rattle.carv_scheduler_spec.specs.Scheduler.{Board, Value, BoardReply, of-registry, no-switch, switch, ended, word, exit-cause, idle, fresh-context, thread, opening, create-user-thread, start, kill, tick, plan, read-thread, read-current, read-switches, exit-of, by-registry}
@@ -201,7 +201,7 @@ pub record Edges : Type 0 where
       × Accepted (some (exit-cause (some 1))) (exit-of 0 (killed-twice .after))
 
 pub edges-hold : Edges
-unfolding due renew returnable
+unfolding due renew
 edges-hold = record {
   frame-for-payer-1 = ((refl, refl), refl);
   then-carve = ((refl, refl), refl, refl, refl);

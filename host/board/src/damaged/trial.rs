@@ -1,7 +1,7 @@
 //! Calls on an area that may be damaged.
 
 use crate::area;
-use crate::pair::{UNTOUCHED, UNTOUCHED_IMAGE};
+use crate::pair::{UNTOUCHED, UNTOUCHED_IMAGE, own_number};
 use crate::port::Port;
 use crate::snapshot;
 use carv_compare::board::call::Call;
@@ -84,15 +84,15 @@ impl Trial {
         Ok(())
     }
 
-    /// Whether the call isn't refused with 1, leaves a sound area, and leaves answer words and
-    /// image if it is refused.
+    /// Whether the call answers a number of its own, so not 1, leaves a sound area, and leaves
+    /// answer words and image if it is refused.
     pub fn does_not_refuse(&mut self, call: Call) -> Result<(), String> {
         let found = self.call(call);
         let sound = self.port.is_sound();
         let untouched = self.port.out == self.lent.out && self.port.image == self.lent.image;
         self.reset();
+        own_number(call.op(), found).map_err(|why| format!("{call}: {why}"))?;
         match found {
-            UNSOUND => Err(format!("{call}: refused with 1")),
             _ if !sound => Err(format!("{call}: is_sound says no afterwards")),
             0 => Ok(()),
             _ if untouched => Ok(()),

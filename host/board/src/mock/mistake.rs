@@ -15,6 +15,8 @@ pub enum Mistake {
     RemovalRenewsThePayersPayerToo,
     RemovalRenewsTheRemovedInstead,
     RefusedRemovalRenews,
+    RemovalAnswers15WhereTheBudgetRan,
+    RemovalAnswers15WhereAStartIsNoMultiple,
     StartSetToTime,
     RenewalForgetsReservations,
     KindBeforeCharge,
@@ -81,6 +83,9 @@ pub enum Mistake {
     ImageLengthNotAsked,
     // Of question 1.
     SumsWrap,
+    SumOfChargesNotAsked,
+    SumOfMemoryReservationsNotAsked,
+    SumOfCpuReservationsNotAsked,
     RestNotAsked,
     AccountsOfOthersNotAsked,
     PayerKindNotAsked,

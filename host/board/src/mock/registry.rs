@@ -121,6 +121,7 @@ impl Model {
         }
         ask(9, id != 1)?;
         ask(10, !pays)?;
+        ask(15, !(is_budget && self.answers_15(&row.account)))?;
         if is_budget || planted(Mistake::RemovalRenewsForEveryKind) {
             self.renew_for_removal(&row, time)?;
         }
@@ -139,6 +140,17 @@ impl Model {
             renew(account, time);
         }
         Ok(vec![])
+    }
+
+    /// Whether the removal of a budget answers 15: only where that is planted.
+    fn answers_15(&self, removed: &Account) -> bool {
+        if planted(Mistake::RemovalAnswers15WhereTheBudgetRan) {
+            return removed.cpu_left < removed.cpu_allowance;
+        }
+        // No list of calls leads there: all periods of an opened board start at multiples.
+        let fits = |row: &ObjectRow| row.account.period_start.is_multiple_of(PERIOD);
+        planted(Mistake::RemovalAnswers15WhereAStartIsNoMultiple)
+            && !self.0.objects.iter().all(fits)
     }
 
     /// Renews the payer of an object that is about to go.

@@ -54,7 +54,11 @@ fn objects_fit(table: &Table) -> bool {
         }
         last = row.id;
     }
-    let used_up = |a: &Account| [a.memory_used, a.memory_reserved, a.cpu_reserved] == [0; 3];
+    let used_up = |a: &Account| {
+        let rest = [a.memory_used, a.memory_reserved, a.cpu_reserved];
+        let mut rest = rest.into_iter().zip(SUMS_NOT_ASKED);
+        rest.all(|(figure, mistake)| asked(mistake, figure == 0))
+    };
     let mut left = left.iter();
     !rows.is_empty() && left.all(|row| row.kind != BUDGET || used_up(&row.account))
 }
@@ -90,16 +94,24 @@ fn within(first: u64, second: u64, limit: u64) -> bool {
     first.checked_add(second).is_some_and(|sum| sum <= limit)
 }
 
+/// Mistakes of the figures that are sums over what a budget pays for: use, memory and CPU reserved.
+const SUMS_NOT_ASKED: [Mistake; 3] = [
+    Mistake::SumOfChargesNotAsked,
+    Mistake::SumOfMemoryReservationsNotAsked,
+    Mistake::SumOfCpuReservationsNotAsked,
+];
+
 fn take(account: &mut Account, takes: [u64; 3]) -> bool {
     let figures = [
         &mut account.memory_used,
         &mut account.memory_reserved,
         &mut account.cpu_reserved,
     ];
-    figures.into_iter().zip(takes).all(|(figure, take)| {
+    let mut figures = figures.into_iter().zip(takes).zip(SUMS_NOT_ASKED);
+    figures.all(|((figure, take), mistake)| {
         let enough = *figure >= take;
         *figure = figure.wrapping_sub(take);
-        asked(Mistake::SumsWrap, enough)
+        asked(Mistake::SumsWrap, enough) || planted(mistake)
     })
 }
 

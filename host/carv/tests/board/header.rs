@@ -8,6 +8,9 @@ use std::collections::BTreeMap;
 
 const HEADER: &str = include_str!("../../../../include/carv.h");
 const DECLARATIONS: &str = include_str!("../../src/ffi.rs");
+const REFUSALS: &str = include_str!("../../src/refusal.rs");
+const CODE: &str = include_str!("../../../../crates/carv_objects/src/refused.rt");
+const DEFINITIONS: &str = include_str!("../../../../crates/carv_objects_spec/specs/Refused.antt");
 
 /// The header without comments.
 fn header() -> String {
@@ -108,10 +111,76 @@ fn codes() {
             state.code()
         );
     }
-    for refusal in Refusal::LISTED {
-        let code = constant(&format!("CARV_REFUSED_{}", name_of(refusal)));
-        assert_eq!(code, refusal.number());
-    }
+}
+
+/// Document 01's number that no call answers: only an account called alone does.
+const NOT_GIVEN: u64 = 15;
+
+/// Refusals by name, with their numbers.
+type Refusals = BTreeMap<String, u64>;
+
+/// What a call returns, by the header: all constants of the enum that begins with `CARV_ACCEPTED`, and
+/// whatever else is called `CARV_REFUSED_`.
+fn refusals_in_header() -> Refusals {
+    let header = header();
+    let mut enums = header.split(['{', '}']);
+    let returned = enums.find(|text| text.trim_start().starts_with("CARV_ACCEPTED = 0,"));
+    let returned = returned
+        .expect("the enum of what a call returns")
+        .split(',');
+    let returned = returned.filter_map(|line| line.split_whitespace().next());
+    let refused = header.split_whitespace();
+    let refused = refused.filter(|word| word.starts_with("CARV_REFUSED_"));
+    let names = returned.skip(1).chain(refused);
+    let named = names.map(|name| (name.replacen("CARV_REFUSED_", "", 1), constant(name)));
+    named.collect()
+}
+
+/// The refusals that the wrapper gives a number, listed or not.
+fn refusals_in_wrapper() -> Refusals {
+    let arms = REFUSALS.lines().filter_map(|line| {
+        let (name, number) = line.trim().strip_prefix("Self::")?.split_once(" => ")?;
+        let number = number.strip_suffix(',')?.parse().ok()?;
+        Some((upper(name), number))
+    });
+    arms.collect()
+}
+
+/// The variants of the wrapper's `Refusal`.
+fn variants_in_wrapper() -> Vec<String> {
+    let (_, body) = REFUSALS.split_once("pub enum Refusal {").expect("the enum");
+    let (body, _) = body.split_once("\n}").expect("its end");
+    let lines = body.lines().map(str::trim);
+    let variants = lines.filter(|line| !line.is_empty() && !line.starts_with("//"));
+    let names = variants.map(|line| line.trim_end_matches(',').split('(').next());
+    names.flatten().map(upper).collect()
+}
+
+/// Refusals that a proved file names: a name between `before` and `after`, then the number.
+fn refusals_in(text: &str, before: &str, after: &str) -> Refusals {
+    let named = text.lines().filter_map(|line| {
+        let (name, number) = line.strip_prefix(before)?.split_once(after)?;
+        let number = number.trim_end_matches(';').parse().ok()?;
+        Some((name.to_uppercase(), number))
+    });
+    named.collect()
+}
+
+/// Header, wrapper, code and definitions have the same refusals, the wrapper lists all of them, and
+/// 15 is none.
+#[test]
+fn refusals() {
+    let listed = Refusal::LISTED.map(|refusal| (name_of(refusal), refusal.number()));
+    let mut variants = listed.clone().map(|(name, _)| name).to_vec();
+    variants.push("OTHER".to_string());
+    assert_eq!(variants_in_wrapper(), variants);
+    let listed = Refusals::from(listed);
+    assert_eq!(refusals_in_header(), listed);
+    assert_eq!(refusals_in_wrapper(), listed);
+    assert_eq!(refusals_in(CODE, "pub const ", ": u64 = "), listed);
+    assert_eq!(refusals_in(DEFINITIONS, "", " = "), listed);
+    assert!(listed.values().all(|number| *number != NOT_GIVEN));
+    assert_eq!(Refusal::from_number(NOT_GIVEN), Refusal::Other(NOT_GIVEN));
 }
 
 /// Functions by name: the types of the arguments in Rust, then that of the answer.

@@ -2,8 +2,9 @@
 
 use super::call::Op;
 
-/// Numbers that document 01 lists, 0 for an accepted call included.
-pub const NUMBERS: usize = 16;
+/// Numbers that calls answer: 0 for an accepted one, 1 to 14 for a refused one. Document 01's 15 is
+/// only of an account called alone.
+pub const NUMBERS: usize = 15;
 
 /// The numbers that a call can answer on a sound board: 0, and those by which it refuses. On any
 /// other board all answer 1, but for an opening.

@@ -1,6 +1,6 @@
 -- `carv_objects::accounts::give_back` meets its contract. Assumes nothing.
 use borrow.Author.Needs.{needs}
-use Rattle.carv_objects.specs.laws.Booked.{return-books}
+use Rattle.carv_objects.specs.laws.Booked.{return-is}
 use Rattle.carv_objects.proofs.accounts.give_back.Statement.{statement}
 use Rattle.carv_objects.proofs.accounts.give_back.Tie as tie
 
@@ -10,5 +10,4 @@ give-back-spec =
     (tie.spec
     (λ c κs. c .pre .0)  -- renew-requires
     (λ c κs. search needs)  -- release-child-requires
-    (λ c κs. search needs)  -- booking-requires
-    (λ c. return-books _ (c .before .before .before .pre .0) _ (c .before .before .before .pre .1) _ _ (c .before .before .renew .ensures) _ (c .before .release-child .ensures) (c .booking .result) (c .booking .ensures)))  -- returns
+    (λ c. return-is _ (c .before .before .before .pre .0) _ (c .before .before .before .pre .1) (c .before .before .before .pre .2) _ _ (c .before .before .renew .ensures) _ (c .before .release-child .ensures)))  -- returns

@@ -81,9 +81,14 @@ impl Report {
             write!(f, "; not: {}", shown.join(", "))?;
         }
         match missing.len().saturating_sub(SHOWN) {
-            0 => writeln!(f, ".\n"),
-            more => writeln!(f, " and {more} more.\n"),
+            0 => writeln!(f, ".")?,
+            more => writeln!(f, " and {more} more.")?,
         }
+        // Else it may be what differs.
+        if self.difference.is_none() {
+            writeln!(f, "On a sound board no call gave another number.")?;
+        }
+        writeln!(f)
     }
 
     fn write_boards(&self, f: &mut fmt::Formatter<'_>) -> fmt::Result {
