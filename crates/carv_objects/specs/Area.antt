@@ -1,9 +1,8 @@
 -- The registry in its lent area of 45,072 bytes, as 64-bit words, the least byte first: the next id, the number of objects, and 512 places of 11 words each.
 -- What the bytes say, question 1 of them, and what a call promises of them. docs/LAYOUT.md has the same as a table. Assumes nothing.
 use mathlib.Core.Path.{_≡_}
-use mathlib.Core.Bool.{Bool, true, false, _&&_, cond}
+use mathlib.Core.Bool.{Bool, true, false, _&&_}
 use mathlib.Core.List.{List, [], _∷_}
-use mathlib.Core.Option.{Option, none, some}
 use Prim.Native.Nat.{ℕ, _+_, _*_}
 use lib.Dec.{eqb, leb}
 use lib.ListN.{length, getD, drop}
@@ -16,7 +15,6 @@ use Rattle.carv_budget.specs.Account.{period}
 use Rattle.carv_objects_spec.specs.declared.Entry.{Entry}
 use Rattle.carv_objects.specs.declared.Answer.{Answer}
 use Rattle.carv_objects.specs.declared.Answer.the-variants.{Done, Refused}
-use Rattle.carv_objects_spec.specs.Reply.{Reply}
 use Rattle.carv_objects.specs.Answer.{number, value}
 use Rattle.carv_objects_spec.specs.Registry.{Registry, RegistryReply, opening, refill, has-cpu}
 use Rattle.carv_objects_spec.specs.Sound.{sound}

@@ -6,7 +6,7 @@ ghost use mathlib.Core.Path.{_≡_};
 ghost use mathlib.Core.Bool.{true};
 ghost use Prim.Native.Nat.{_≤_, min};
 ghost use lib.Dec.{leb};
-ghost use Rattle.carv_budget.specs.Account.{period, sound, due, renew, free, spend, charge, credit, reserve, return, returnable, fresh};
+ghost use Rattle.carv_budget.specs.Account.{period, sound, renew, free, spend, charge, credit, return, returnable, fresh};
 ghost use Rattle.carv_objects.specs.laws.Booked.{Books, Carves, done};
 
 // An account with the operation booked, or its refusal.

@@ -1,6 +1,6 @@
 -- What demand 1 says of refusals, for the registry's calls: a refused call changes nothing, "save that a carve-out or CPU charge refused after a renewal leaves that renewal".
 -- Assumes nothing.
-use mathlib.Core.Bool.{Bool, cond, _&&_}
+use mathlib.Core.Bool.{cond, _&&_}
 use mathlib.Core.Option.{Option, none, some}
 use Prim.Native.Nat.{ℕ}
 use lib.Dec.{eqb, leb}

@@ -1,5 +1,5 @@
 -- What demand 1 says of refusals: a refused call changes nothing, "save that a carve-out or CPU charge refused after a renewal leaves that renewal". Assumes nothing.
-use mathlib.Core.Option.{Option, none, some}
+use mathlib.Core.Option.{Option, none}
 use Prim.Native.Nat.{ℕ}
 use Rattle.carv_objects_spec.specs.Demand1 as objects
 use Rattle.carv_scheduler_spec.specs.Scheduler as scheduler

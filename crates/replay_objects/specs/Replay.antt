@@ -1,10 +1,9 @@
 -- What a record's call answers and leaves, and how many records say otherwise. Assumes nothing.
 use mathlib.Core.Path.{_≡_}
-use mathlib.Core.Bool.{Bool, true, false, _&&_}
+use mathlib.Core.Bool.{Bool, false, _&&_}
 use mathlib.Core.List.{List}
 use Prim.Native.Nat.{ℕ, _*_}
 use lib.Dec.{eqb, leb}
-use Rattle.carv_budget.specs.declared.Account.{Account}
 use Rattle.carv_objects.specs.declared.Answer.{Answer}
 use Rattle.carv_objects.specs.declared.Answer.the-variants.{Done, Id, Renewed, NotDue, Pays, PaysNothing, AccountOf, Charge, Refused}
 use Rattle.carv_objects_spec.specs.Registry.{create, insert, create-budget, charge-more, uncharge, remove, refill, charge-cpu, pays-for-anything, read-account, charge-of}

@@ -11,7 +11,7 @@ use Rattle.carv_scheduler_spec.specs.Rust as rust
 use Rattle.carv_scheduler_spec.specs.laws.Refines as refines
 use Rattle.carv_scheduler.specs.Area.{decode, sound-area, Is}
 use Rattle.carv_scheduler.specs.laws.AreaLaws.{area-sound}
-use Rattle.carv.specs.C.{Opens, Made, Ensures, lent}
+use Rattle.carv.specs.C.{Made, Ensures, lent}
 use Rattle.carv_scheduler_spec.specs.Book.{Call, on-objects, create-user-thread, start, block-current, wake, is-blocked-on, kill, tick, plan, read-thread, read-current, read-switches, exit-of}
 use Rattle.carv_scheduler_spec.specs.Runs.{run, after, AllFit}
 use Rattle.carv_scheduler_spec.specs.laws.Demand2 as definitions

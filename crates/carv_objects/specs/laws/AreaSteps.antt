@@ -1,11 +1,10 @@
 -- What the functions on one part of the area leave. Assumes nothing.
 use Prim.Native.Nat.{ℕ, zero, suc, _+_, _*_, _-_, _^_, _/_, _≤_, _<_}
-use native.Mathlib.Nat.{le-of-suc-le-suc, not-suc-le-zero}
 use native.Mathlib.Omega.{arith}
 use native.Mathlib.Numerals.{add-one}
 use mathlib.Core.Bool.{true, false, _&&_}
 use borrow.Author.Tests.{eq-eqb, ne-eqb, ltb-true, lt-ltb, le-ltb}
-use mathlib.Core.Path.{_≡_, refl, sym, ap, _∙_, subst}
+use mathlib.Core.Path.{_≡_, sym, ap, _∙_, subst}
 use mathlib.Core.List.{List, [], _∷_, _++_}
 use lib.ListN.{length, getD, set}
 use lib.Seq.{getD-set-same}
@@ -29,7 +28,7 @@ use Rattle.carv_objects_spec.specs.declared.Entry.{Entry}
 use Rattle.carv_objects_spec.specs.Registry.{Registry, or-missing, found, entry, has, is-budget, on-account, on-charge, budget, object, add, has-place, has-next}
 use Rattle.carv_objects.specs.Area.{head, table, fields, row-at, rows-in, decode}
 use Rattle.carv_objects.specs.laws.Rows.{row, no-row, wide, set-row, row-at-is, rows-keyed, rows-located, row-room, row-written, row-appended}
-use Rattle.carv_objects.specs.laws.Formed.{WellFormed, Leaves, leaves, leaves-as, length-head, table-written}
+use Rattle.carv_objects.specs.laws.Formed.{WellFormed, Leaves, leaves, length-head, table-written}
 
 abbrev pub with-next : ℕ → Registry → Registry
 with-next n r = record { next = n; rows = r .rows }

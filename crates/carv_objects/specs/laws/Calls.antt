@@ -21,9 +21,9 @@ use Rattle.carv_objects.specs.declared.accounts.Booked.the-variants as b
 use Rattle.carv_objects.specs.declared.accounts.Carved.{Carved}
 use Rattle.carv_objects.specs.declared.accounts.Carved.the-variants as carved
 use Rattle.carv_objects.specs.laws.Booked.{Books, Carves}
-use Rattle.carv_objects_spec.specs.Reply.{Reply, refuse, accept}
+use Rattle.carv_objects_spec.specs.Reply.{refuse}
 use Rattle.carv_objects.specs.Answer.{number, value}
-use Rattle.carv_objects_spec.specs.Registry.{Registry, RegistryReply, account-of, on-account, on-charge, budget, object, add, plain, carved as carved-entry, has-place, has-next}
+use Rattle.carv_objects_spec.specs.Registry.{Registry, RegistryReply, account-of, on-account, budget, add, plain, carved as carved-entry, has-place, has-next}
 use Rattle.carv_objects_spec.specs.laws.SoundFacts.{Sound}
 use Rattle.carv_objects_spec.specs.laws.SoundLaws.{account-sound}
 use Rattle.carv_objects_spec.specs.laws.Refines.{alter-known}
@@ -72,11 +72,6 @@ module _ (r : Registry) (x i : ℕ) (h : Here no-row (r .rows) x i) where
   budget-by f y e =
       ap (λ (m : List (Row Entry)). record { next = r .next; rows = m })
       (alter-known (r .rows) x (on-account (λ _. y)) (on-account f) (getD (r .rows) i no-row .it) (h .is) (ap (λ (z : Account). on-account (λ _. z) (getD (r .rows) i no-row .it)) e))
-
-  pub object-by : (f : ℕ → ℕ) (y : ℕ) → y ≡ f (getD (r .rows) i no-row .it .charge) → object x (λ _. y) r ≡ object x f r
-  object-by f y e =
-      ap (λ (m : List (Row Entry)). record { next = r .next; rows = m })
-      (alter-known (r .rows) x (on-charge (λ _. y)) (on-charge f) (getD (r .rows) i no-row .it) (h .is) (ap (λ (z : ℕ). on-charge (λ _. z) (getD (r .rows) i no-row .it)) e))
 
   pub account-here : account-of r x ≡ getD (r .rows) i no-row .it .account
   account-here = ap (λ (e : Entry). e .account) (here-entry r x i h)

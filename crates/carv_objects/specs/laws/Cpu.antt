@@ -1,10 +1,10 @@
 -- What `cpu.rt` leaves and answers: a budget that is renewed, or charged what is left. Assumes nothing.
-use mathlib.Core.Path.{_≡_, refl, sym, ap, _∙_, subst}
-use mathlib.Core.Bool.{Bool, true, false, _&&_}
+use mathlib.Core.Path.{_≡_, sym, ap, _∙_}
+use mathlib.Core.Bool.{Bool, true, false}
 use mathlib.Core.List.{List}
-use Prim.Native.Nat.{ℕ, min, _<_, _≤_}
+use Prim.Native.Nat.{ℕ, min, _≤_}
 use native.Mathlib.Omega.{arith}
-use lib.Dec.{eqb, ltb, leb}
+use lib.Dec.{eqb, ltb}
 use lib.ListN.{getD}
 use borrow.Author.Tests.{lt-ltb, le-ltb, le-leb}
 use Rattle.carv_area.specs.laws.Table.{at-alter}
@@ -12,10 +12,9 @@ use Rattle.carv_area.specs.Lookup.{Here}
 use Rattle.carv_budget.specs.declared.Account.{Account}
 use Rattle.carv_budget.specs.declared.Outcome.{Outcome}
 use Rattle.carv_budget.specs.Account as account
-use Rattle.carv_budget.specs.laws.Account.{both, not-first, not-second, renew-twice, renew-sound}
+use Rattle.carv_budget.specs.laws.Account.{not-first, renew-twice, renew-sound}
 use Rattle.carv_objects_spec.specs.declared.Entry.{Entry}
 use Rattle.carv_objects_spec.specs.Registry.{Registry, RegistryReply, or-missing, entry, is-budget, account-of, on-account, budget, refill, has-cpu, charge-most}
-use Rattle.carv_objects_spec.specs.laws.SoundFacts.{Sound}
 use Rattle.carv_objects_spec.specs.laws.Kept.{refill-kept, charge-most-kept}
 use Rattle.carv_objects.specs.Area.{decode, sound-area, Is, Renews}
 use Rattle.carv_objects.specs.laws.Rows.{no-row}
@@ -24,13 +23,6 @@ use Rattle.carv_objects.specs.laws.AreaSteps.{here-entry}
 use Rattle.carv_objects.specs.laws.Booked.{spend-is}
 use Rattle.carv_objects.specs.laws.Calls.{area-sound, is-area, budget-by}
 use Rattle.carv_objects_spec.specs.laws.Questions.{refill-missing, refill-done}
-
--- the lesser of two
-pub least-first : (x y : ℕ) → x < y → x ≡ min x y
-least-first x y h = omega arith
-
-pub least-second : (x y : ℕ) → y ≤ x → y ≡ min x y
-least-second x y h = omega arith
 
 -- `spend_most`: the renewed account y is charged n, the lesser of ns and what is left
 pub spends-most : (a y : Account) (ns time n : ℕ) → account.sound a ≡ true → y ≡ account.renew a time → n ≡ min ns (y .«cpu_left») → (o : Outcome) → o ≡ account.charge-cpu y n time

@@ -1,9 +1,9 @@
 -- An area that is well formed: it has its length, and its words are a next id and a table with rising ids below it. What a change of one part leaves.
 -- Assumes nothing.
-use Prim.Native.Nat.{ℕ, _+_, _≤_, _<_}
+use Prim.Native.Nat.{ℕ, _+_, _≤_}
 use native.Mathlib.Omega.{arith}
 use mathlib.Core.Path.{_≡_, refl, sym, ap, _∙_, subst}
-use mathlib.Core.List.{List, [], _∷_, _++_}
+use mathlib.Core.List.{List}
 use lib.ListN.{length, getD}
 use Rattle.carv_area.specs.Table.{Row, Rising}
 use Rattle.carv_area.specs.Words.{words}
@@ -12,7 +12,7 @@ use Rattle.carv_area.specs.laws.Parts.{length-part, length-put, part-same, part
 use Rattle.carv_area.specs.Stored.{Stored}
 use Rattle.carv_objects_spec.specs.declared.Entry.{Entry}
 use Rattle.carv_objects_spec.specs.Registry.{Registry}
-use Rattle.carv_objects.specs.Area.{head, table, fields, rows-in, decode}
+use Rattle.carv_objects.specs.Area.{head, table, fields, decode}
 use Rattle.carv_objects.specs.laws.Rows.{rows-in-are}
 
 -- the bytes a are those of the registry s, whose ids rise

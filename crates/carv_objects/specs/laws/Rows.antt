@@ -1,13 +1,12 @@
 -- The rows of the registry's table: what its words say of them, and what a change of one leaves. Assumes nothing.
-use Prim.Native.Nat.{ℕ, zero, suc, _+_, _*_, _≤_, _<_}
+use Prim.Native.Nat.{ℕ, suc, _+_, _*_, _≤_, _<_}
 use native.Mathlib.Omega.{arith}
 use native.Mathlib.Numerals.{towards-numerals}
-use mathlib.Core.Path.{_≡_, refl, sym, ap, _∙_, subst}
-use mathlib.Core.List.{List, [], _∷_, _++_, map}
+use mathlib.Core.Path.{_≡_, refl}
+use mathlib.Core.List.{List, [], _∷_, _++_}
 use lib.ListN.{length, getD, set}
 use lib.Seq.{sets}
 use Rattle.carv_area.specs.Table.{Row, Rising}
-use Rattle.carv_area.specs.Lists.{tab}
 use Rattle.carv_area.specs.Words.{words}
 use Rattle.carv_area.specs.Rows.{Holds}
 use Rattle.carv_area.specs.laws.Rows.{holds-word}

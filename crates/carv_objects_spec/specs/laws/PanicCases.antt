@@ -15,7 +15,7 @@ use Rattle.carv_objects_spec.specs.Rust as rust
 use Rattle.carv_objects_spec.specs.Panics as panics
 use Rattle.carv_objects_spec.specs.Panics.{checks, ids-after, NoPanics}
 use Rattle.carv_objects_spec.specs.Book.{create, insert, create-budget, charge-more, uncharge, remove, refill, charge-cpu, pays-for-anything, read-account, charge-of}
-use Rattle.carv_objects_spec.specs.laws.Edges.{budget, object, registry, carved}
+use Rattle.carv_objects_spec.specs.laws.Edges.{budget, registry, carved}
 
 -- the next id is 2^64 − 1
 abbrev pub last : Registry

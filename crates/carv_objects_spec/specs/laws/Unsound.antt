@@ -2,7 +2,7 @@
 -- place, and where that moves a sum, in the sum too, so that no other test fails where that can be had. Assumes nothing.
 use mathlib.Core.Path.{_≡_, refl}
 use mathlib.Core.Bool.{true, false}
-use mathlib.Core.List.{List, [], _∷_}
+use mathlib.Core.List.{[], _∷_}
 use Prim.Native.Nat.{ℕ}
 use Rattle.carv_area.specs.Table.{Row}
 use Rattle.carv_budget.specs.declared.Account.{Account}
