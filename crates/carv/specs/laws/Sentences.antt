@@ -1,7 +1,7 @@
 -- The demands over exported calls, sentence by sentence: each theorem is drawn from `demand1`, `demand2` or `demand3`, with the fields written out. A claim that said less would
--- be refused here. Assumes nothing.
+-- be refused here. Beside them P2's and P12's sentences, which also rest on what is proved of the definitions, or speak of any sound area. Assumes nothing.
 use mathlib.Core.Path.{_≡_, refl, sym, ap, subst, _∙_}
-use mathlib.Core.Bool.{Bool, true, false, cond, _&&_, _||_}
+use mathlib.Core.Bool.{Bool, true, false, cond, not, _&&_, _||_}
 use mathlib.Core.Option.{none}
 use mathlib.Core.List.{List, [], _∷_, _++_, map}
 use Prim.Native.Nat.{ℕ, _+_, _-_, _%_, _<_, _≤_}
@@ -15,6 +15,7 @@ use Rattle.carv_budget.specs.Account.{due}
 use Rattle.carv_budget.specs.Panics.{AllPass}
 use Rattle.carv_objects_spec.specs.Registry.{account-of, entry, has, is-budget, payer-of, pays-for, Registry, remove}
 use Rattle.carv_objects_spec.specs.Question15.{remove-asking-15}
+use Rattle.carv_objects_spec.specs.Rust as objects-rust
 use Rattle.carv_objects_spec.specs.Book as objects
 use Rattle.carv_objects_spec.specs.Book.{Budget, Figures, budget-of, figures, is-live}
 use Rattle.carv_objects_spec.specs.Demand1 as objects-demand1
@@ -129,7 +130,7 @@ module _ (a : List ℕ) (e : Made) (h : Ensures a e) where
       not-1 : e .returned ≡ 1 → ⊥
       not-1 p = omega (arith, p, q)
 
-  -- P12, of a removal: 1 aside it answers 0, 7, 9 or 10, and 0 wherever it passes 7, 9 and 10
+  -- P12, of a removal: 1 aside it answers 0, 7, 9 or 10, and 0 exactly where it passes 7, 9 and 10
   module _ (i time : ℕ) (c : e .call ≡ on-objects (objects.remove i time)) (y : lent e ≡ true) (s : sound-area a ≡ true) where
     number-is : e .returned ≡ remove i time (decode a .registry) .number
     number-is = let (number, same) = rules-followed y s in rw c at number
@@ -137,13 +138,13 @@ module _ (a : List ℕ) (e : Made) (h : Ensures a e) where
     pub removal-answers : (eqb (e .returned) 0 || eqb (e .returned) 7 || eqb (e .returned) 9 || eqb (e .returned) 10) ≡ true
     removal-answers = subst (λ (n : ℕ). (eqb n 0 || eqb n 7 || eqb n 9 || eqb n 10) ≡ true) (sym number-is) (question-15.removal-number i time (decode a .registry))
 
-    pub removal-accepted : has (decode a .registry) i ≡ true → (i ≡ 1 → ⊥) → (is-budget (decode a .registry) i ≡ true → pays-for (decode a .registry) i ≡ false) → e .returned ≡ 0
-    removal-accepted there not-root pays-nothing =
-        number-is ∙ question-15.reached-accepted i time (decode a .registry) (question-15.reached i (decode a .registry) there not-root pays-nothing)
+    pub removal-accepted : eqb (e .returned) 0
+        ≡ (has (decode a .registry) i && not (eqb i 1) && not (is-budget (decode a .registry) i && pays-for (decode a .registry) i))
+    removal-accepted = ap (λ (n : ℕ). eqb n 0) number-is ∙ question-15.accepted-exactly i time (decode a .registry)
 
-    -- it is 01's removal, which asks question 15 too
-    pub removal-as-01 : (e .returned ≡ remove-asking-15 i time (decode a .registry) .number) × (decode (e .left) .registry ≡ remove-asking-15 i time (decode a .registry) .after)
-    removal-as-01 = let (number, same) = rules-followed y s in
+    -- it is the removal before P12, which asks question 15 too
+    pub removal-as-before : (e .returned ≡ remove-asking-15 i time (decode a .registry) .number) × (decode (e .left) .registry ≡ remove-asking-15 i time (decode a .registry) .after)
+    removal-as-before = let (number, same) = rules-followed y s in
         rw (question-15.asking-15-changes-nothing i time (decode a .registry) (sound-shown (decode a .registry) (area-sound a s .registry))) (number-is, ap (λ (x : Board). x .registry) (rw c at same))
 
   -- P2, of an accepted removal
@@ -194,6 +195,12 @@ module _ (a : List ℕ) (e : Made) (h : Ensures a e) where
     pub others-stay : (j : ℕ) → (i ≡ j → ⊥) → (payer ≡ j → ⊥) → at (decode (e .left) .registry .rows) j ≡ at (before .rows) j
     others-stay j p q = subst (λ (x : Registry). at (x .rows) j ≡ at (before .rows) j) left (removal.others-stay i time j before p q)
 
+-- P12, demand 2: on no sound area does the Rust's removal come to `InvalidMethod`, which would be told as 15, nor does carv-os' own
+pub rust-returns : (a : List ℕ) → sound-area a ≡ true → (i time : ℕ)
+    → (objects-rust.remove i time (decode a .registry) .result ≡ objects-rust.err objects-rust.invalid-method → ⊥)
+    × (objects-rust.remove-unrenewed i (decode a .registry) .result ≡ objects-rust.err objects-rust.invalid-method → ⊥)
+rust-returns a s i time = question-15.rust-returns i time (decode a .registry) (sound-shown (decode a .registry) (area-sound a s .registry))
+
 -- P12: "from every sound state a removal that reaches question 15 passes it, and .. its payer is live": of any sound area, whatever calls led to it or none
 module _ (a : List ℕ) (s : sound-area a ≡ true) (i : ℕ) (there : has (decode a .registry) i ≡ true) (not-root : i ≡ 1 → ⊥)
     (pays-nothing : is-budget (decode a .registry) i ≡ true → pays-for (decode a .registry) i ≡ false) where
@@ -208,6 +215,11 @@ module _ (a : List ℕ) (s : sound-area a ≡ true) (i : ℕ) (there : has (deco
       × (account-of here i .«memory_limit» ≤ account-of here (payer-of here i) .«memory_reserved»)
       × (account-of here i .«cpu_allowance» ≤ account-of here (payer-of here i) .«cpu_reserved»)
   child-returnable = question-15.child-returnable i here there not-root pays-nothing (sound-shown here (area-sound a s .registry))
+
+  -- the Rust's removal goes through there, at any time, and so does carv-os' own
+  pub rust-goes-through : (time : ℕ) → (objects-rust.remove i time here .result ≡ objects-rust.ok tt) × (objects-rust.remove-unrenewed i here .result ≡ objects-rust.ok tt)
+  rust-goes-through time =
+      question-15.rust-goes-through i time here (sound-shown here (area-sound a s .registry)) (question-15.reached i here there not-root pays-nothing)
 
 -- the opening: 1 for a length, 2 for the share, which leave every byte; else the opened board, written in one way, over whatever the bytes were
 module _ (cpu memory : ℕ) (a out : List ℕ) (r : ℕ) (a′ out′ : List ℕ) (o : Opens cpu memory a out r a′ out′) where

@@ -8,7 +8,7 @@ use lib.Dec.{eqb, leb}
 use borrow.Author.Tests.{leb-true, eqb-false, not-true}
 use Rattle.carv_area.specs.laws.Table.{test}
 use Rattle.carv_budget.specs.Account as account
-use Rattle.carv_objects_spec.specs.Reply.{refuse}
+use Rattle.carv_objects_spec.specs.Reply.{Reply, refuse}
 use Rattle.carv_objects_spec.specs.Registry.{Registry, RegistryReply, entry, has, is-budget, account-of, payer-of, pays-for, budget, listed, bytes-of, creatable, needs-backing, has-place, has-next}
 use Rattle.carv_objects_spec.specs.Book.{Call, create, insert, create-budget, charge-more, uncharge, remove, refill, charge-cpu, pays-for-anything, read-account, charge-of}
 use Rattle.carv_objects_spec.specs.Runs.{run}
@@ -16,26 +16,27 @@ use Rattle.carv_objects_spec.specs.Demand1.{renewal-left, with-renewal}
 use Rattle.carv_budget.specs.laws.Account.{first, second}
 use Rattle.carv_objects_spec.specs.laws.Questions.{create-budget-full, create-budget-payer, create-budget-cover, create-budget-carve, create-budget-done, charge-cpu-missing, charge-cpu-above, charge-cpu-done, refill-done}
 
--- what is shown of a reply: refused, it leaves r; and its number is neither 1 nor 15
-record Keeps (r : Registry) (z : RegistryReply) : Type 0 where
-  left : (z .number ≡ 0 → ⊥) → z .after ≡ r
-  not-one : z .number ≡ 1 → ⊥
-  not-15 : z .number ≡ 15 → ⊥
+-- what is shown of a reply, of the board's calls too: refused, it leaves s; and its number is neither 1 nor 15
+pub record Keeps {A S : Type 0} (s : S) (z : Reply A S) : Type 0 where
+  pub left : (z .number ≡ 0 → ⊥) → z .after ≡ s
+  pub not-one : z .number ≡ 1 → ⊥
+  pub not-15 : z .number ≡ 15 → ⊥
 
-accepted : (r : Registry) (z : RegistryReply) → z .number ≡ 0 → Keeps r z
-accepted r z e = record { left = λ q. absurd (q e); not-one = λ q. omega (arith, e, q); not-15 = λ q. omega (arith, e, q) }
-
--- a question that is missed, its number neither 0, 1 nor 15
-abbrev answerable : ℕ → Bool
+-- the number of a question that is missed: neither 0, 1 nor 15
+abbrev pub answerable : ℕ → Bool
 answerable n = leb 2 n && not (eqb n 15)
 
-ask : (n : ℕ) (b : Bool) (r : Registry) {k : RegistryReply} → answerable n ≡ true → Keeps r k → Keeps r (cond b k (refuse n r))
-ask n true r h k = k
-ask n false r h k = record {
-  left = λ q. refl;
-  not-one = λ q. let low = leb-true 2 n (first (leb 2 n) _ h) in omega arith;
-  not-15 = eqb-false n 15 (not-true (eqb n 15) (second (leb 2 n) _ h));
-}
+module _ {A S : Type 0} where
+  pub accepted : (s : S) (z : Reply A S) → z .number ≡ 0 → Keeps s z
+  accepted s z e = record { left = λ q. absurd (q e); not-one = λ q. omega (arith, e, q); not-15 = λ q. omega (arith, e, q) }
+
+  pub ask : (n : ℕ) (b : Bool) (s : S) {k : Reply A S} → answerable n ≡ true → Keeps s k → Keeps s (cond b k (refuse n s))
+  ask n true s h k = k
+  ask n false s h k = record {
+    left = λ q. refl;
+    not-one = λ q. let low = leb-true 2 n (first (leb 2 n) _ h) in omega arith;
+    not-15 = eqb-false n 15 (not-true (eqb n 15) (second (leb 2 n) _ h));
+  }
 
 -- what a call that is refused leaves, and that it is not refused with 1. P12: nor with 15
 pub record Leaves (c : Call) (r : Registry) : Type 0 where

@@ -1,4 +1,5 @@
--- Each call of the registry by its outcomes, and that each keeps a sound registry sound. Assumes nothing.
+-- Each call of the registry by its outcomes, and that each keeps a sound registry sound; for these, what soundness says of the entries that a call finds, as that a budget which
+-- pays for nothing can be returned to its payer (`removal-passes`). Assumes nothing.
 use mathlib.Core.Path.{_≡_, refl, sym, _∙_, ap, subst}
 use mathlib.Core.Bool.{Bool, true, false, cond, not, _&&_, _||_}
 use mathlib.Core.Option.{Option, none, some}

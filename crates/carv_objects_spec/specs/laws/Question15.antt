@@ -1,11 +1,11 @@
 -- P12: on a sound registry a removal that reaches question 15 passes it and has a live payer; so asking it changes nothing, and the Rust's `remove` has no error there. Also what
 -- a removal answers, and cases: registries that miss the question by one part of it, none of them sound. Assumes nothing.
 use mathlib.Core.Path.{_≡_, refl, sym, ap, _∙_}
-use mathlib.Core.Bool.{true, false, not, _&&_, _||_}
+use mathlib.Core.Bool.{true, false, cond, not, _&&_, _||_}
 use Prim.Native.Nat.{ℕ, _-_, _≤_}
 use native.Mathlib.Omega.{arith}
 use lib.Dec.{eqb, leb}
-use borrow.Author.Tests.{eqb-false, ne-eqb, lt-leb, not-true}
+use borrow.Author.Tests.{eqb-true, eqb-false, ne-eqb, lt-leb, not-true}
 use Rattle.carv_area.specs.laws.Table.{test}
 use Rattle.carv_budget.specs.declared.Account.{Account}
 use Rattle.carv_budget.specs.Account as account
@@ -45,12 +45,17 @@ module _ (i : ℕ) (r : Registry) (there : has r i ≡ true) (not-root : i ≡ 1
       × (account-of r i .«memory_limit» ≤ account-of r (payer-of r i) .«memory_reserved») × (account-of r i .«cpu_allowance» ≤ account-of r (payer-of r i) .«cpu_reserved»)
   child-returnable s b = let p = question-15-passed i r s reached in (p .no-use b, p .no-memory-reserved b, p .no-cpu-reserved b, p .memory-within b, p .cpu-within b)
 
--- so 01's removal, which asks it, is this one
+-- On any registry the removal that asks it differs only there: where it is reached and missed.
+pub asking-15 : (i time : ℕ) (r : Registry) → remove-asking-15 i time r ≡ cond (reaches-15 i r && not (passes-15 i r)) (refuse 15 r) (remove i time r)
+asking-15 i time r =
+    test (has r i) (λ a. test (not (eqb i 1)) (λ b. test (not (is-budget r i && pays-for r i))
+    (λ c. test (passes-15 i r) (λ p. rw (a, b, c, p)) (λ p. rw (a, b, c, p)))
+    (λ c. rw (a, b, c))) (λ b. rw (a, b))) (λ a. rw a)
+
+-- so on a sound one it is this removal
 pub asking-15-changes-nothing : (i time : ℕ) (r : Registry) → sound r ≡ true → remove-asking-15 i time r ≡ remove i time r
 asking-15-changes-nothing i time r s =
-    test (has r i) (λ a. test (not (eqb i 1)) (λ b. test (not (is-budget r i && pays-for r i))
-    (λ c. let p = question-15-passed i r s (rw (a, b, c)) .passed in rw (a, b, c, p))
-    (λ c. rw (a, b, c))) (λ b. rw (a, b))) (λ a. rw a)
+    test (reaches-15 i r) (λ h. rw (asking-15 i time r, h, question-15-passed i r s h .passed)) (λ h. rw (asking-15 i time r, h))
 
 -- What a removal answers, on any registry: 0, 7, 9 or 10, and 0 exactly where it reaches question 15.
 pub removal-number : (i time : ℕ) (r : Registry)
@@ -60,15 +65,9 @@ removal-number i time r = asked Four (has r i) refl λ _. asked Four (not (eqb i
     Four : RegistryReply → Type 0
     Four z = (eqb (z .number) 0 || eqb (z .number) 7 || eqb (z .number) 9 || eqb (z .number) 10) ≡ true
 
-pub reached-accepted : (i time : ℕ) (r : Registry) → reaches-15 i r ≡ true → remove i time r .number ≡ 0
-reached-accepted i time r h =
-    let h′ = first (has r i && not (eqb i 1)) _ h in rw (first (has r i) _ h′, second (has r i) _ h′, second (has r i && not (eqb i 1)) _ h)
-
-pub accepted-reached : (i time : ℕ) (r : Registry) → remove i time r .number ≡ 0 → reaches-15 i r ≡ true
-accepted-reached i time r =
-    asked (λ z. z .number ≡ 0 → reaches-15 i r ≡ true) (has r i) (λ n. absurd (omega (arith, n))) λ a.
-    asked (λ z. z .number ≡ 0 → reaches-15 i r ≡ true) (not (eqb i 1)) (λ n. absurd (omega (arith, n))) λ b.
-    asked (λ z. z .number ≡ 0 → reaches-15 i r ≡ true) (not (is-budget r i && pays-for r i)) (λ n. absurd (omega (arith, n))) λ c _. rw (a, b, c)
+pub accepted-exactly : (i time : ℕ) (r : Registry) → eqb (remove i time r .number) 0 ≡ reaches-15 i r
+accepted-exactly i time r =
+    test (has r i) (λ a. test (not (eqb i 1)) (λ b. test (not (is-budget r i && pays-for r i)) (λ c. rw (a, b, c)) (λ c. rw (a, b, c))) (λ b. rw (a, b))) (λ a. rw a)
 
 -- The Rust keeps its error, and the reply to it would be 15. On a sound registry it doesn't come: past 7, 9 and 10 both removals go through, P2's reference and carv-os' own.
 went-through : (x : rust.Result (Unit {0})) (self : Registry) → result-of nothing 15 x self .number ≡ 0 → x ≡ rust.ok tt
@@ -85,21 +84,28 @@ not-due-at-0 : (a : Account) → account.due a 0 ≡ false
 unfolding account.due
 not-due-at-0 a = test (leb (a .«period_start») 0) (λ q. rw (q, lt-leb account.period (0 - a .«period_start») (omega arith))) (λ q. rw q)
 
+-- both are this removal, carv-os' own at 0
+both-told : (i time : ℕ) (r : Registry) → sound r ≡ true
+    → (remove i time r .number ≡ reply-of nothing 15 (rust.remove i time r) .number) × (remove i 0 r .number ≡ reply-of nothing 15 (rust.remove-unrenewed i r) .number)
+both-told i time r s =
+    let S = sound-told r s in (
+      ap (λ (x : RegistryReply). x .number) (remove-rust i time r S),
+      ap (λ (x : RegistryReply). x .number) (remove-carv-os i 0 r S (λ _ _. not-due-at-0 (account-of r (payer-of r i)))),
+    )
+
 pub rust-goes-through : (i time : ℕ) (r : Registry) → sound r ≡ true → reaches-15 i r ≡ true
     → (rust.remove i time r .result ≡ rust.ok tt) × (rust.remove-unrenewed i r .result ≡ rust.ok tt)
-rust-goes-through i time r s h =
-    let S = sound-told r s in
-    let by : (z : rust.Call (Unit {0})) (t : ℕ) → remove i t r ≡ reply-of nothing 15 z → z .result ≡ rust.ok tt
-    = λ z t e. went-through (z .result) (z .self) (sym (ap (λ (x : RegistryReply). x .number) e) ∙ reached-accepted i t r h) in
-    (by (rust.remove i time r) time (remove-rust i time r S), by (rust.remove-unrenewed i r) 0 (remove-carv-os i 0 r S (λ _ _. not-due-at-0 (account-of r (payer-of r i)))))
+rust-goes-through i time r s h = let (renewing, own) = both-told i time r s in (by (rust.remove i time r) time renewing, by (rust.remove-unrenewed i r) 0 own)
+  where
+    by : (z : rust.Call (Unit {0})) (t : ℕ) → remove i t r .number ≡ reply-of nothing 15 z .number → z .result ≡ rust.ok tt
+    by z t e = went-through (z .result) (z .self) (sym e ∙ eqb-true (remove i t r .number) 0 (accepted-exactly i t r ∙ h))
 
 pub rust-returns : (i time : ℕ) (r : Registry) → sound r ≡ true
     → (rust.remove i time r .result ≡ rust.err rust.invalid-method → ⊥) × (rust.remove-unrenewed i r .result ≡ rust.err rust.invalid-method → ⊥)
-rust-returns i time r s =
-    let S = sound-told r s in
-    let by : (z : rust.Call (Unit {0})) (t : ℕ) → remove i t r ≡ reply-of nothing 15 z → z .result ≡ rust.err rust.invalid-method → ⊥
-    = λ z t e q. leaves (book.remove i t) r .not-15 (ap (λ (x : RegistryReply). x .number) e ∙ ap (λ (x : rust.Result (Unit {0})). result-of nothing 15 x (z .self) .number) q) in
-    (by (rust.remove i time r) time (remove-rust i time r S), by (rust.remove-unrenewed i r) 0 (remove-carv-os i 0 r S (λ _ _. not-due-at-0 (account-of r (payer-of r i)))))
+rust-returns i time r s = let (renewing, own) = both-told i time r s in (by (rust.remove i time r) time renewing, by (rust.remove-unrenewed i r) 0 own)
+  where
+    by : (z : rust.Call (Unit {0})) (t : ℕ) → remove i t r .number ≡ reply-of nothing 15 z .number → z .result ≡ rust.err rust.invalid-method → ⊥
+    by z t e q = leaves (book.remove i t) r .not-15 (e ∙ ap (λ (x : rust.Result (Unit {0})). result-of nothing 15 x (z .self) .number) q)
 
 -- Cases.
 
@@ -121,16 +127,26 @@ orphan = rust.remove-entry 1 carved
 abbrev pub unpaid : Registry
 unpaid = add (record { kind = 6; payer = 0; charge = 0; account = account.fresh 0 0 0 }) carved
 
--- a registry on which a removal of budget 2 reaches question 15 and misses it, as carv-os does: it is not sound
-pub record Misses (r : Registry) : Type 0 where
+-- budget 4 has 1,000,000 ns and 1,000 bytes of budget 2's; the same with another account of budget 2, and without it
+abbrev pub nested : Registry
+nested = create-budget 2 1_000_000 1_000 0 carved .after
+
+abbrev pub with-payer : (cpu-reserved memory-reserved : ℕ) → Registry
+with-payer cpu-reserved memory-reserved = rust.write-budget 2 (account.with-memory (account.with-cpu (account-of nested 2) 0 3_000_000 cpu-reserved) 128 memory-reserved) nested
+
+abbrev pub nested-orphan : Registry
+nested-orphan = rust.remove-entry 2 nested
+
+-- a registry on which a removal of budget i, which this payer pays for, reaches question 15 and misses it, as carv-os does: it is not sound
+pub record Misses (i payer : ℕ) (r : Registry) : Type 0 where
   pub unsound : sound r ≡ false
-  pub reaches : reaches-15 2 r ≡ true
-  pub missed : passes-15 2 r ≡ false
-  pub refused : remove-asking-15 2 0 r ≡ refuse 15 r
-  pub by-rust : rust.remove-unrenewed 2 r ≡ rust.gives r (rust.err rust.invalid-method)
+  pub reaches : reaches-15 i r ≡ true
+  pub missed : passes-15 i r ≡ false
+  pub refused : remove-asking-15 i 0 r ≡ refuse 15 r
+  pub by-rust : rust.remove-unrenewed i r ≡ rust.gives r (rust.err rust.invalid-method)
   -- P2's reference has renewed the payer by then
-  pub by-reference : rust.remove 2 10_000_000 r ≡ rust.gives (rust.refill 1 10_000_000 r .self) (rust.err rust.invalid-method)
-  pub told : rust-run (book.remove 2 10_000_000) r .number ≡ 15
+  pub by-reference : rust.remove i 10_000_000 r ≡ rust.gives (rust.refill payer 10_000_000 r .self) (rust.err rust.invalid-method)
+  pub told : rust-run (book.remove i 10_000_000) r .number ≡ 15
 
 pub record Cases : Type 0 where
   -- budget 2 and the Frame reach question 15, on a sound registry
@@ -139,24 +155,29 @@ pub record Cases : Type 0 where
   -- 7, 9 and 10 are met before it
   pub do-not : (reaches-15 9 carved ≡ false) × (reaches-15 1 carved ≡ false) × (reaches-15 2 (create 5 2 true carved .after) ≡ false)
   -- part by part: the root reserves a nanosecond or a byte too little; the child has reserved a nanosecond or a byte, or used one
-  pub cpu-above : Misses (with-root 3_999_999 9_000)
-  pub memory-above : Misses (with-root 4_000_000 8_999)
-  pub child-cpu : Misses (with-child 1 0 0)
-  pub child-memory : Misses (with-child 0 0 1)
-  pub child-used : Misses (with-child 0 1 0)
+  pub cpu-above : Misses 2 1 (with-root 3_999_999 9_000)
+  pub memory-above : Misses 2 1 (with-root 4_000_000 8_999)
+  pub child-cpu : Misses 2 1 (with-child 1 0 0)
+  pub child-memory : Misses 2 1 (with-child 0 0 1)
+  pub child-used : Misses 2 1 (with-child 0 1 0)
+  -- a payer other than the root, which has reserved enough
+  pub nested-cpu-above : Misses 4 2 (with-payer 999_999 1_000)
+  pub nested-memory-above : Misses 4 2 (with-payer 1_000_000 999)
   -- as they were: nothing is missed
   pub as-it-was : (with-root 4_000_000 9_000 ≡ carved) × (passes-15 2 carved ≡ true) × (passes-15 2 (with-child 0 0 0) ≡ true)
+  pub nested-as-it-was : (with-payer 1_000_000 1_000 ≡ nested) × (sound nested ≡ true) × (reaches-15 4 nested ≡ true) × (passes-15 4 nested ≡ true)
   -- another kind has nothing to return, whatever stands in its account
   pub frame : passes-15 3 (rust.write-budget 3 (account-of carved 1) carved) ≡ true
-  -- no payer: the root gone, and a budget that names nobody
+  -- no payer: the root gone, budget 2 gone, and a budget that names nobody
   pub without-payer : (sound orphan ≡ false) × (rust.remove 2 0 orphan ≡ rust.gives orphan (rust.err rust.not-found))
+  pub nested-without-payer : (sound nested-orphan ≡ false) × (rust.remove 4 0 nested-orphan ≡ rust.gives nested-orphan (rust.err rust.not-found))
   pub paid-by-nobody : (sound unpaid ≡ false) × (reaches-15 4 unpaid ≡ true) × (has unpaid (payer-of unpaid 4) ≡ false)
 
-missing-it : (r : Registry) → sound r ≡ false → reaches-15 2 r ≡ true → passes-15 2 r ≡ false → remove-asking-15 2 0 r ≡ refuse 15 r
-    → rust.remove-unrenewed 2 r ≡ rust.gives r (rust.err rust.invalid-method)
-    → rust.remove 2 10_000_000 r ≡ rust.gives (rust.refill 1 10_000_000 r .self) (rust.err rust.invalid-method)
-    → rust-run (book.remove 2 10_000_000) r .number ≡ 15 → Misses r
-missing-it r a b c d e f g = record { unsound = a; reaches = b; missed = c; refused = d; by-rust = e; by-reference = f; told = g }
+missing-it : (i payer : ℕ) (r : Registry) → sound r ≡ false → reaches-15 i r ≡ true → passes-15 i r ≡ false → remove-asking-15 i 0 r ≡ refuse 15 r
+    → rust.remove-unrenewed i r ≡ rust.gives r (rust.err rust.invalid-method)
+    → rust.remove i 10_000_000 r ≡ rust.gives (rust.refill payer 10_000_000 r .self) (rust.err rust.invalid-method)
+    → rust-run (book.remove i 10_000_000) r .number ≡ 15 → Misses i payer r
+missing-it i payer r a b c d e f g = record { unsound = a; reaches = b; missed = c; refused = d; by-rust = e; by-reference = f; told = g }
 
 pub cases-hold : Cases
 unfolding account.sound account.due account.renew account.returnable rust.credit budget-rust.refill budget-rust.release-child budget-rust.release-memory
@@ -164,13 +185,17 @@ cases-hold = record {
   sound-here = refl;
   reach-it = (refl, refl);
   do-not = (refl, refl, refl);
-  cpu-above = missing-it (with-root 3_999_999 9_000) refl refl refl refl refl refl refl;
-  memory-above = missing-it (with-root 4_000_000 8_999) refl refl refl refl refl refl refl;
-  child-cpu = missing-it (with-child 1 0 0) refl refl refl refl refl refl refl;
-  child-memory = missing-it (with-child 0 0 1) refl refl refl refl refl refl refl;
-  child-used = missing-it (with-child 0 1 0) refl refl refl refl refl refl refl;
+  cpu-above = missing-it 2 1 (with-root 3_999_999 9_000) refl refl refl refl refl refl refl;
+  memory-above = missing-it 2 1 (with-root 4_000_000 8_999) refl refl refl refl refl refl refl;
+  child-cpu = missing-it 2 1 (with-child 1 0 0) refl refl refl refl refl refl refl;
+  child-memory = missing-it 2 1 (with-child 0 0 1) refl refl refl refl refl refl refl;
+  child-used = missing-it 2 1 (with-child 0 1 0) refl refl refl refl refl refl refl;
+  nested-cpu-above = missing-it 4 2 (with-payer 999_999 1_000) refl refl refl refl refl refl refl;
+  nested-memory-above = missing-it 4 2 (with-payer 1_000_000 999) refl refl refl refl refl refl refl;
   as-it-was = (refl, refl, refl);
+  nested-as-it-was = (refl, refl, refl, refl);
   frame = refl;
   without-payer = (refl, refl);
+  nested-without-payer = (refl, refl);
   paid-by-nobody = (refl, refl, refl);
 }

@@ -197,7 +197,7 @@ every-meets =
     (omega arith, (omega arith, (omega arith, (tt, (tt, (tt, (tt, (tt, (tt, (tt, (tt, (tt, (tt, (tt, (tt, (tt, (tt, (tt, (tt, (tt, tt))))))))))))))))))))
     refl refl
 
--- `every` and the registry's list meet each call, and of each call these numbers: 0 and those of 01's questions before it that are not marked +.
+-- `every` and the registry's list meet each call, and of each call these numbers: 0 and those of 01's questions before it that are not marked +, but 15.
 
 abbrev lists : List Numbered
 lists = every ++ on-board registry-added.every

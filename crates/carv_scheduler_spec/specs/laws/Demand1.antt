@@ -1,42 +1,18 @@
 -- A refused call leaves what specs/Demand1.antt says, and no call on a board answers 1 or 15. Assumes nothing.
 use mathlib.Core.Path.{_≡_, refl, sym, ap, _∙_}
-use mathlib.Core.Bool.{Bool, true, false, cond, not, _&&_}
+use mathlib.Core.Bool.{not}
 use mathlib.Core.Option.{Option, none}
 use Prim.Native.Nat.{ℕ}
-use native.Mathlib.Omega.{arith}
-use lib.Dec.{eqb, ltb, leb}
+use lib.Dec.{eqb, ltb}
 use lib.ListN.{length}
-use borrow.Author.Tests.{leb-true, eqb-false, not-true}
-use Rattle.carv_budget.specs.laws.Account.{first, second}
-use Rattle.carv_objects_spec.specs.Reply.{refuse}
 use Rattle.carv_objects_spec.specs.Registry.{Registry}
 use Rattle.carv_objects_spec.specs.laws.Demand1 as objects
+use Rattle.carv_objects_spec.specs.laws.Demand1.{Keeps, accepted, ask}
 use Rattle.carv_scheduler_spec.specs.Scheduler as scheduler
-use Rattle.carv_scheduler_spec.specs.Scheduler.{Board, BoardReply, idle, inactive, running, blocked, is, wait-listed, cause-listed, most-threads, tick-fits, thread, has}
+use Rattle.carv_scheduler_spec.specs.Scheduler.{Board, idle, inactive, running, blocked, is, wait-listed, cause-listed, most-threads, tick-fits, thread, has}
 use Rattle.carv_scheduler_spec.specs.Book.{Call, on-objects, create-user-thread, start, block-current, wake, is-blocked-on, kill, tick, plan, read-thread, read-current, read-switches, exit-of}
 use Rattle.carv_scheduler_spec.specs.Runs.{run}
 use Rattle.carv_scheduler_spec.specs.Demand1.{renewal-left, with-renewal}
-
--- what is shown of a reply: refused, it leaves b; and its number is neither 1 nor 15
-record Keeps (b : Board) (z : BoardReply) : Type 0 where
-  left : (z .number ≡ 0 → ⊥) → z .after ≡ b
-  not-one : z .number ≡ 1 → ⊥
-  not-15 : z .number ≡ 15 → ⊥
-
-accepted : (b : Board) (z : BoardReply) → z .number ≡ 0 → Keeps b z
-accepted b z e = record { left = λ q. absurd (q e); not-one = λ q. omega (arith, e, q); not-15 = λ q. omega (arith, e, q) }
-
--- a question that is missed, its number neither 0, 1 nor 15
-abbrev answerable : ℕ → Bool
-answerable n = leb 2 n && not (eqb n 15)
-
-ask : (n : ℕ) (c : Bool) (b : Board) {k : BoardReply} → answerable n ≡ true → Keeps b k → Keeps b (cond c k (refuse n b))
-ask n true b h k = k
-ask n false b h k = record {
-  left = λ q. refl;
-  not-one = λ q. let low = leb-true 2 n (first (leb 2 n) _ h) in omega arith;
-  not-15 = eqb-false n 15 (not-true (eqb n 15) (second (leb 2 n) _ h));
-}
 
 -- what a call that is refused leaves, and that it is not refused with 1. P12: nor with 15
 pub record Leaves (c : Call) (b : Board) : Type 0 where
