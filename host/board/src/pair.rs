@@ -195,6 +195,7 @@ fn first_differing<'a, T: PartialEq>(
 mod tests {
     use super::*;
     use carv_compare::board::make::{open, remove};
+    use carv_compare::board::walk::Walk;
 
     /// Also where both sides give it. Before an opening there is no sound board.
     #[test]
@@ -210,13 +211,13 @@ mod tests {
         assert_eq!(pair.call(remove(2, 0)), Ok(1));
         pair.call(open(0, 0)).expect("no difference");
         pair.port.out.copy_from_slice(&UNTOUCHED);
-        for (call, own) in [
-            (remove(2, 0), [0, 7, 9, 10].as_slice()),
-            (open(0, 0), &[0, 2]),
-        ] {
+        let mut walk = Walk::new(1);
+        for op in Op::ALL.iter().copied() {
+            let call = walk.call(op, pair.state());
             for number in 0..20 {
                 let done = compared(&pair, call, number);
-                assert_eq!(done.is_ok(), own.contains(&number), "{call}: {done:?}");
+                let own = numbers::of(op).contains(&number);
+                assert_eq!(done.is_ok(), own, "{call}: {done:?}");
             }
         }
         let done = compared(&pair, remove(2, 0), 15);

@@ -225,18 +225,25 @@ fn damaged_areas_find_mistakes_in_question_1() {
 }
 
 /// On areas that are damaged and still sound there is no Rust beside the port: a call must answer a
-/// number of its own. No list of calls finds this mistake.
+/// number of its own. No list of calls finds these mistakes.
 #[test]
 fn damaged_areas_find_numbers_that_are_not_the_call_s_own() {
-    let mistake = Mistake::RemovalAnswers15WhereAStartIsNoMultiple;
-    let by_lists = with(mistake, || runs::first_difference(100_000, SEED));
-    assert!(by_lists.is_ok());
-    let found = with(mistake, || damaged::damaged(8_000, SEED));
-    let why = found.expect_err("a difference");
-    assert!(
-        why.contains("the number is 15, which remove never"),
-        "{why}"
-    );
+    for (mistake, expected) in [
+        (
+            Mistake::RemovalAnswers15WhereAStartIsNoMultiple,
+            "the number is 15, which remove never",
+        ),
+        (
+            Mistake::PlanAnswers1WhereAStartIsNoMultiple,
+            "the number is 1, which plan never",
+        ),
+    ] {
+        let by_lists = with(mistake, || runs::first_difference(100_000, SEED));
+        assert!(by_lists.is_ok());
+        let found = with(mistake, || damaged::damaged(8_000, SEED));
+        let why = found.expect_err("a difference");
+        assert!(why.contains(expected), "{why}");
+    }
 }
 
 /// By this seed each of these mistakes is found after a few hundred calls on a board.

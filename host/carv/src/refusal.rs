@@ -188,3 +188,17 @@ impl fmt::Display for Refusal {
 }
 
 impl Error for Refusal {}
+
+#[cfg(test)]
+mod tests {
+    use super::Refusal;
+
+    /// A call is accepted with 0 and with no other number, listed or not.
+    #[test]
+    fn only_0_is_accepted() {
+        assert_eq!(Refusal::check(0), Ok(()));
+        for number in (1..100).chain([u64::MAX]) {
+            assert_eq!(Refusal::check(number), Err(Refusal::from_number(number)));
+        }
+    }
+}

@@ -4,7 +4,7 @@ use crate::area;
 use crate::pair::{UNTOUCHED, UNTOUCHED_IMAGE, own_number};
 use crate::port::Port;
 use crate::snapshot;
-use carv_compare::board::call::Call;
+use carv_compare::board::call::{Call, Op};
 use carv_compare::board::reference::{Reference, UNSOUND};
 
 /// A board of the port, and what it was lent.
@@ -91,13 +91,7 @@ impl Trial {
         let sound = self.port.is_sound();
         let untouched = self.port.out == self.lent.out && self.port.image == self.lent.image;
         self.reset();
-        own_number(call.op(), found).map_err(|why| format!("{call}: {why}"))?;
-        match found {
-            _ if !sound => Err(format!("{call}: is_sound says no afterwards")),
-            0 => Ok(()),
-            _ if untouched => Ok(()),
-            _ => Err(format!("{call}: refused, and yet there is an answer")),
-        }
+        served(call.op(), found, sound, untouched).map_err(|why| format!("{call}: {why}"))
     }
 
     /// Whether an accepted opening leaves what the Rust's leaves.
@@ -115,6 +109,37 @@ impl Trial {
         match as_expected {
             true => Ok(()),
             false => Err(format!("{call}: not as the Rust opens")),
+        }
+    }
+}
+
+/// Whether the number is one of the call's own, and what is left fits it: a sound area, and where it
+/// is a refusal untouched answer words and image.
+fn served(op: Op, found: u64, sound: bool, untouched: bool) -> Result<(), String> {
+    own_number(op, found)?;
+    match found {
+        _ if !sound => Err("is_sound says no afterwards".to_string()),
+        0 => Ok(()),
+        _ if untouched => Ok(()),
+        _ => Err("refused, and yet there is an answer".to_string()),
+    }
+}
+
+#[cfg(test)]
+mod tests {
+    use super::*;
+    use carv_compare::board::numbers;
+
+    #[test]
+    fn numbers_and_what_is_left() {
+        for op in Op::ALL.iter().copied() {
+            for number in 0..20 {
+                let own = numbers::of(op).contains(&number);
+                let is_served = |sound, untouched| served(op, number, sound, untouched).is_ok();
+                assert_eq!(is_served(true, true), own, "{} {number}", op.name());
+                assert_eq!(is_served(true, false), own && number == 0);
+                assert!(!is_served(false, true));
+            }
         }
     }
 }

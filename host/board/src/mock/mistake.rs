@@ -17,6 +17,7 @@ pub enum Mistake {
     RefusedRemovalRenews,
     RemovalAnswers15WhereTheBudgetRan,
     RemovalAnswers15WhereAStartIsNoMultiple,
+    PlanAnswers1WhereAStartIsNoMultiple,
     StartSetToTime,
     RenewalForgetsReservations,
     KindBeforeCharge,

@@ -147,10 +147,13 @@ impl Model {
         if planted(Mistake::RemovalAnswers15WhereTheBudgetRan) {
             return removed.cpu_left < removed.cpu_allowance;
         }
-        // No list of calls leads there: all periods of an opened board start at multiples.
+        planted(Mistake::RemovalAnswers15WhereAStartIsNoMultiple) && self.has_odd_start()
+    }
+
+    /// Whether a period starts at no multiple of 10 ms. No list of calls leads there.
+    pub(super) fn has_odd_start(&self) -> bool {
         let fits = |row: &ObjectRow| row.account.period_start.is_multiple_of(PERIOD);
-        planted(Mistake::RemovalAnswers15WhereAStartIsNoMultiple)
-            && !self.0.objects.iter().all(fits)
+        !self.0.objects.iter().all(fits)
     }
 
     /// Renews the payer of an object that is about to go.

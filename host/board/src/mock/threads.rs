@@ -192,6 +192,9 @@ impl Model {
     }
 
     pub(super) fn plan(&mut self, tick: u64) -> Done {
+        if planted(Mistake::PlanAnswers1WhereAStartIsNoMultiple) {
+            ask(1, !self.has_odd_start())?;
+        }
         ask_tick(tick)?;
         let old = self.0.current;
         if planted(Mistake::AlwaysNoSwitch) {

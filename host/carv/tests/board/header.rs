@@ -2,9 +2,9 @@
 
 use carv::{
     AREA_BYTES, Cause, IMAGE_BYTES, Kind, LAST_TICK, MOST_EXITS, MOST_OBJECTS, MOST_THREADS,
-    ObjectId, PERIOD_NS, Refusal, State, TICK_NS, ThreadId, Wait,
+    ObjectId, PERIOD_NS, Refusal, State, TICK_NS, ThreadId, Wait, c,
 };
-use std::collections::BTreeMap;
+use std::collections::{BTreeMap, BTreeSet};
 
 const HEADER: &str = include_str!("../../../../include/carv.h");
 const DECLARATIONS: &str = include_str!("../../src/ffi.rs");
@@ -55,24 +55,80 @@ fn name_of(value: impl std::fmt::Debug) -> String {
     upper(shown.split('(').next().unwrap_or_default())
 }
 
+/// Constants by their names in the header, without `CARV_`.
+const CONSTANTS: [(&str, u64); 12] = [
+    ("AREA_BYTES", AREA_BYTES as u64),
+    ("ANSWER_WORDS", c::ANSWER_WORDS as u64),
+    ("IMAGE_BYTES", IMAGE_BYTES as u64),
+    ("MOST_OBJECTS", MOST_OBJECTS as u64),
+    ("MOST_THREADS", MOST_THREADS as u64),
+    ("MOST_EXITS", MOST_EXITS as u64),
+    ("PERIOD_NS", PERIOD_NS),
+    ("TICK_NS", TICK_NS),
+    ("LAST_TICK", LAST_TICK),
+    ("ROOT", ObjectId::ROOT.0),
+    ("FIRST_THREAD", ThreadId::FIRST.0),
+    ("IDLE", ThreadId::IDLE.0),
+];
+
 #[test]
 fn constants() {
-    for (name, value) in [
-        ("AREA_BYTES", AREA_BYTES as u64),
-        ("IMAGE_BYTES", IMAGE_BYTES as u64),
-        ("MOST_OBJECTS", MOST_OBJECTS as u64),
-        ("MOST_THREADS", MOST_THREADS as u64),
-        ("MOST_EXITS", MOST_EXITS as u64),
-        ("PERIOD_NS", PERIOD_NS),
-        ("TICK_NS", TICK_NS),
-        ("LAST_TICK", LAST_TICK),
-        ("ROOT", ObjectId::ROOT.0),
-        ("FIRST_THREAD", ThreadId::FIRST.0),
-        ("IDLE", ThreadId::IDLE.0),
-    ] {
+    for (name, value) in CONSTANTS {
         assert_eq!(constant(&format!("CARV_{name}")), value, "{name}");
     }
 }
+
+/// Names of the header that are compared one by one here, in `codes` and in `refusals`; what begins
+/// with one of `WORDS` is the place of an answer word.
+const CODES: [&str; 6] = ["KIND_", "BYTES_", "STATE_", "WAIT_", "CAUSE_", "REFUSED_"];
+const WORDS: [&str; 6] = ["OUT_", "ACCOUNT_", "CHARGE_", "KILL_", "PLAN_", "THREAD_"];
+
+/// The header has no other name, and as many codes of each form as the wrapper.
+#[test]
+fn names() {
+    let header = header();
+    let words = header.split(|letter: char| !letter.is_alphanumeric() && letter != '_');
+    let names: BTreeSet<&str> = words.filter_map(|it| it.strip_prefix("CARV_")).collect();
+    let begins = |name: &str, forms: &[&str]| forms.iter().any(|form| name.starts_with(form));
+    let others = names.iter().copied();
+    let others = others.filter(|name| !begins(name, &CODES) && !begins(name, &WORDS));
+    let constants = CONSTANTS.into_iter().map(|(name, _)| name);
+    let expected = constants.chain(["H", "ACCEPTED"]).collect::<BTreeSet<_>>();
+    assert_eq!(others.collect::<BTreeSet<_>>(), expected);
+
+    // Waits and causes also have a number for none.
+    let counts = [
+        Kind::ALL.len(),
+        Kind::ALL.len(),
+        STATES.len(),
+        WAITS.len() + 1,
+        Cause::ALL.len() + 1,
+        Refusal::LISTED.len(),
+    ];
+    for (form, count) in CODES.into_iter().zip(counts) {
+        let named = names.iter().filter(|name| name.starts_with(form));
+        assert_eq!(named.count(), count, "{form}");
+    }
+    for name in names.iter().filter(|name| begins(name, &WORDS)) {
+        assert!(constant(&format!("CARV_{name}")) < c::ANSWER_WORDS as u64);
+    }
+}
+
+const WAITS: [Wait; 5] = [
+    Wait::Send(7),
+    Wait::Recv(7),
+    Wait::Reply(7),
+    Wait::Notification(7),
+    Wait::Sleep(7),
+];
+
+const STATES: [State; 5] = [
+    State::Inactive,
+    State::Ready,
+    State::Running,
+    State::Blocked(Wait::Send(0)),
+    State::Dead,
+];
 
 #[test]
 fn codes() {
@@ -89,23 +145,11 @@ fn codes() {
             cause.code()
         );
     }
-    for wait in [
-        Wait::Send(7),
-        Wait::Recv(7),
-        Wait::Reply(7),
-        Wait::Notification(7),
-        Wait::Sleep(7),
-    ] {
+    for wait in WAITS {
         let code = constant(&format!("CARV_WAIT_{}", name_of(wait)));
         assert_eq!(wait.codes(), (code, 7));
     }
-    for state in [
-        State::Inactive,
-        State::Ready,
-        State::Running,
-        State::Blocked(Wait::Send(0)),
-        State::Dead,
-    ] {
+    for state in STATES {
         assert_eq!(
             constant(&format!("CARV_STATE_{}", name_of(state))),
             state.code()
@@ -156,14 +200,40 @@ fn variants_in_wrapper() -> Vec<String> {
     names.flatten().map(upper).collect()
 }
 
-/// Refusals that a proved file names: a name between `before` and `after`, then the number.
-fn refusals_in(text: &str, before: &str, after: &str) -> Refusals {
-    let named = text.lines().filter_map(|line| {
-        let (name, number) = line.strip_prefix(before)?.split_once(after)?;
-        let number = number.trim_end_matches(';').parse().ok()?;
-        Some((name.to_uppercase(), number))
+/// The refusals of the code: every line of that file is one, or a comment.
+fn refusals_in_code() -> Refusals {
+    let is_code = |line: &&str| !line.is_empty() && !line.starts_with("//");
+    let named = CODE.lines().filter(is_code).map(|line| {
+        let constant = line.strip_prefix("pub const ");
+        let constant = constant.and_then(|constant| constant.strip_suffix(';'));
+        let named = constant.and_then(|constant| constant.split_once(": u64 = "));
+        let (name, number) = named.unwrap_or_else(|| panic!("no refusal: {line}"));
+        (name.to_string(), parsed(number, line))
     });
     named.collect()
+}
+
+/// The refusals of the definitions: every number that is declared there, by the line that says which.
+fn refusals_in_definitions() -> Refusals {
+    let declared = DEFINITIONS.lines().filter_map(|line| {
+        let declared = line.strip_suffix(" : ℕ")?;
+        declared.split(' ').next_back()
+    });
+    let named = declared.map(|name| {
+        let mut lines = DEFINITIONS.lines();
+        let number = lines.find_map(|line| line.strip_prefix(name)?.strip_prefix(" = "));
+        (
+            name.to_uppercase(),
+            parsed(number.unwrap_or_default(), name),
+        )
+    });
+    named.collect()
+}
+
+fn parsed(number: &str, named: &str) -> u64 {
+    number
+        .parse()
+        .unwrap_or_else(|_| panic!("no number of {named}: {number}"))
 }
 
 /// Header, wrapper, code and definitions have the same refusals, the wrapper lists all of them, and
@@ -177,8 +247,8 @@ fn refusals() {
     let listed = Refusals::from(listed);
     assert_eq!(refusals_in_header(), listed);
     assert_eq!(refusals_in_wrapper(), listed);
-    assert_eq!(refusals_in(CODE, "pub const ", ": u64 = "), listed);
-    assert_eq!(refusals_in(DEFINITIONS, "", " = "), listed);
+    assert_eq!(refusals_in_code(), listed);
+    assert_eq!(refusals_in_definitions(), listed);
     assert!(listed.values().all(|number| *number != NOT_GIVEN));
     assert_eq!(Refusal::from_number(NOT_GIVEN), Refusal::Other(NOT_GIVEN));
 }

@@ -3,14 +3,19 @@
 use carv::Refusal;
 use std::collections::HashSet;
 
+/// Numbers that no call answers, document 01's 15 among them.
+const UNKNOWN: [u64; 4] = [15, 16, 99, u64::MAX];
+
 #[test]
 fn numbers() {
     for (refusal, number) in Refusal::LISTED.into_iter().zip(1..) {
         assert_eq!(refusal.number(), number);
         assert_eq!(Refusal::from_number(number), refusal);
     }
-    assert_eq!(Refusal::from_number(15), Refusal::Other(15));
-    assert_eq!(Refusal::Other(15).number(), 15);
+    for number in UNKNOWN {
+        assert_eq!(Refusal::from_number(number), Refusal::Other(number));
+        assert_eq!(Refusal::Other(number).number(), number);
+    }
 }
 
 /// Each has a meaning and an advice of its own, the advice in whole sentences.
@@ -28,6 +33,11 @@ fn texts() {
         );
         assert!(texts.insert(meaning) && texts.insert(advice), "{refusal}");
     }
+    let texts = UNKNOWN.map(|number| {
+        let refusal = Refusal::Other(number);
+        (refusal.meaning(), refusal.advice())
+    });
+    assert_eq!(HashSet::from(texts).len(), 1);
 }
 
 /// Words that each meaning must have.

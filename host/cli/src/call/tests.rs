@@ -41,7 +41,7 @@ fn names_and_arguments_are_the_headers() {
     assert_eq!(forms, in_header());
 }
 
-/// The numbers in the last column of the functions' table, without remarks in brackets.
+/// The numbers in the last column of the functions' table, if it has any; 1 may have a remark.
 fn refusals_in_layout(name: &str) -> Vec<u64> {
     let begins = [
         format!("| `carv_{name}` |"),
@@ -50,13 +50,11 @@ fn refusals_in_layout(name: &str) -> Vec<u64> {
     let mut rows = LAYOUT.lines();
     let row = rows.find(|row| begins.iter().any(|begin| row.starts_with(begin)));
     let numbers = row.and_then(|row| row.trim_end_matches('|').rsplit('|').next());
-    let mut text = numbers.expect("a row of the function").to_string();
-    while let Some((before, rest)) = text.clone().split_once('(') {
-        let (_, behind) = rest.split_once(')').expect("a closing bracket");
-        text = before.to_string() + behind;
-    }
-    let numbers = text.split(',').map(str::trim);
-    numbers.filter_map(|number| number.parse().ok()).collect()
+    let numbers = numbers.expect("a row of the function").split(',');
+    let numbers = numbers.map(|number| number.trim().trim_end_matches(" (the lengths alone)"));
+    let numbers = numbers.filter(|number| !number.is_empty());
+    let numbers = numbers.map(|number| number.parse());
+    numbers.collect::<Result<_, _>>().expect("numbers")
 }
 
 #[test]
@@ -65,6 +63,9 @@ fn refusals_are_the_layouts() {
         let mut expected = refusals_in_layout(form.name);
         expected.retain(|number| *number != 1);
         assert_eq!(form.refusals, expected, "{}", form.name);
+        let unknown =
+            |number: &u64| matches!(carv::Refusal::from_number(*number), carv::Refusal::Other(_));
+        assert!(!form.refusals.iter().any(unknown), "{}", form.name);
     }
 }
 
