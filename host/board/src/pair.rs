@@ -220,6 +220,8 @@ mod tests {
                 assert_eq!(done.is_ok(), own, "{call}: {done:?}");
             }
         }
+        assert_eq!(numbers::of(Op::Remove), [0, 7, 9, 10]);
+        assert_eq!(numbers::of(Op::Open), [0, 2]);
         let done = compared(&pair, remove(2, 0), 15);
         let why = "the number is 15, which remove never answers on a sound board";
         assert_eq!(done, Err(why.to_string()));
