@@ -15,7 +15,7 @@ names from the section "Demands" on; the columns "01 says" and "02 says" are lef
     objects::f, scheduler::f           in src/lib.rt there, or passed on by it; carv_area::f, carv::f in these
     Type::name, struct T, enum T       in any src/; carv_name in carv; Mistake::X in host/board/tests/mistakes.rs
     objects/edit, objects_spec/edit .. in must-fail/ of the crate; bare names of the last column in carv_budget's
-    replay_x, "x word" in "run by"     a program; the names behind "Rust:" there in host/oracle/tests, those behind a host/file.rs: in it
+    replay_x, "x word" in "run by"     a program; the names behind "Rust:" there in host/oracle/tests, those behind a host/file.rs: tests in it
     file.rt, a/path                    in any src/; from ROOT, crates/ or crates/carv_budget/
     first column of the last section   a public function of the crate that the line above the table names
 
@@ -94,9 +94,9 @@ def names(cell, column, crate):
             yield name, there(name) if '/' in name else exists('crates/carv_budget/must-fail/%s.edit' % name)
         return
     if column == 'run by':
-        for path, tests in re.findall(r'`(host/[^`]+\.rs)`: ((?:(?:, )?`\w+`)+)', cell):
-            for name in TICKED.findall(tests):
-                yield '%s: %s' % (path, name), function(name, path)
+        for path, tests in re.findall(r'`(host/[^`]+\.rs)`: ([^;]*)', re.sub(r'\([^)]*\)', '', cell)):
+            for name in re.findall(r'`(\w+)`', tests):
+                yield '%s: %s' % (path, name), has(r'#\[test\]\s+fn %s\b' % name, text(path))
         for part in re.findall(r'Rust: ([^;(]*)', cell):
             for name in TICKED.findall(part):
                 yield 'Rust: ' + name, function(name, 'host/oracle/tests/*.rs')

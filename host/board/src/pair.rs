@@ -214,7 +214,7 @@ mod tests {
         let mut walk = Walk::new(1);
         for op in Op::ALL.iter().copied() {
             let call = walk.call(op, pair.state());
-            for number in 0..20 {
+            for number in (0..20).chain([99, u64::MAX]) {
                 let done = compared(&pair, call, number);
                 let own = numbers::of(op).contains(&number);
                 assert_eq!(done.is_ok(), own, "{call}: {done:?}");

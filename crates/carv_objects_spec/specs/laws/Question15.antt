@@ -2,6 +2,7 @@
 -- a removal answers, and cases: registries that miss the question by one part of it, none of them sound. Assumes nothing.
 use mathlib.Core.Path.{_≡_, refl, sym, ap, _∙_}
 use mathlib.Core.Bool.{true, false, cond, not, _&&_, _||_}
+use mathlib.Core.Option.{none, some}
 use Prim.Native.Nat.{ℕ, _-_, _≤_}
 use native.Mathlib.Omega.{arith}
 use lib.Dec.{eqb, leb}
@@ -11,6 +12,7 @@ use Rattle.carv_budget.specs.declared.Account.{Account}
 use Rattle.carv_budget.specs.Account as account
 use Rattle.carv_budget.specs.Rust as budget-rust
 use Rattle.carv_budget.specs.laws.Account.{first, second}
+use Rattle.carv_objects_spec.specs.declared.Entry.{Entry}
 use Rattle.carv_objects_spec.specs.Reply.{refuse}
 use Rattle.carv_objects_spec.specs.Registry.{Registry, RegistryReply, has, is-budget, account-of, payer-of, pays-for, add, opening, create, create-budget, remove}
 use Rattle.carv_objects_spec.specs.Sound.{sound}
@@ -106,6 +108,19 @@ rust-returns i time r s = let (renewing, own) = both-told i time r s in (by (rus
   where
     by : (z : rust.Call (Unit {0})) (t : ℕ) → remove i t r .number ≡ reply-of nothing 15 z .number → z .result ≡ rust.err rust.invalid-method → ⊥
     by z t e q = leaves (book.remove i t) r .not-15 (e ∙ ap (λ (x : rust.Result (Unit {0})). result-of nothing 15 x (z .self) .number) q)
+
+-- What the Rust does where it comes to an error, on any registry, sound or not: the entry is put back as it was, and the payer keeps what was done to it before.
+module _ (before : Account → Account) (i : ℕ) (r : Registry) (e : Entry) (not-root : eqb i 1 ≡ false) (here : rust.get i r ≡ some e)
+    (b : rust.is-budget e ≡ true) (idle : rust.pays-for-anything i r ≡ false) where
+  pub rust-without-payer : rust.budget-mut (e .payer) (rust.remove-entry i r) ≡ none
+      → rust.remove-with before i r ≡ rust.gives (rust.insert-entry i e (rust.remove-entry i r)) (rust.err rust.not-found)
+  rust-without-payer q = rw (not-root, here, b, idle, q)
+
+  pub rust-not-returned : (parent : Account) (x : budget-rust.BudgetError) → rust.budget-mut (e .payer) (rust.remove-entry i r) ≡ some parent
+      → budget-rust.release-child true (before parent) (e .account) .result ≡ budget-rust.err x
+      → rust.remove-with before i r ≡ rust.gives (rust.insert-entry i e (rust.write-budget (e .payer) (budget-rust.release-child true (before parent) (e .account) .self) (rust.remove-entry i r)))
+      (rust.err rust.invalid-method)
+  rust-not-returned parent x q w = rw (not-root, here, b, idle, q, w)
 
 -- Cases.
 

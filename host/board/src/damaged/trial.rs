@@ -133,7 +133,7 @@ mod tests {
     #[test]
     fn numbers_and_what_is_left() {
         for op in Op::ALL.iter().copied() {
-            for number in 0..20 {
+            for number in (0..20).chain([99, u64::MAX]) {
                 let own = numbers::of(op).contains(&number);
                 let is_served = |sound, untouched| served(op, number, sound, untouched).is_ok();
                 assert_eq!(is_served(true, true), own, "{} {number}", op.name());

@@ -30,6 +30,12 @@ fn constant(name: &str) -> u64 {
         .skip(1)
         .filter(|word| *word != "=");
     let value = words.next().unwrap_or_else(|| panic!("no {name}"));
+    let next = words.next().unwrap_or_default();
+    let goes_on = value.ends_with(|last: char| last.is_alphanumeric() || last == ')')
+        && next.starts_with(|first: char| !first.is_alphanumeric() && !"#}_".contains(first));
+    assert!(!goes_on, "{name} is {value} {next}");
+    let places = header.split_whitespace().filter(|word| *word == name);
+    assert_eq!(places.count(), 1, "{name}");
     let value = value.trim_end_matches(',');
     let digits = value.trim_start_matches("UINT64_C(").trim_end_matches(')');
     digits
@@ -78,20 +84,40 @@ fn constants() {
     }
 }
 
-/// Names of the header that are compared one by one here, in `codes` and in `refusals`; what begins
-/// with one of `WORDS` is the place of an answer word.
+/// Names of the header that are compared one by one in `codes` and in `refusals`; what begins with one
+/// of `WORDS` is the place of one of so many answer words.
 const CODES: [&str; 6] = ["KIND_", "BYTES_", "STATE_", "WAIT_", "CAUSE_", "REFUSED_"];
-const WORDS: [&str; 6] = ["OUT_", "ACCOUNT_", "CHARGE_", "KILL_", "PLAN_", "THREAD_"];
+const WORDS: [(&str, usize); 6] = [
+    ("OUT_", 1),
+    ("ACCOUNT_", 7),
+    ("CHARGE_", 2),
+    ("KILL_", 2),
+    ("PLAN_", 5),
+    ("THREAD_", 20),
+];
+
+/// What the header names by `#define` or in an enum.
+fn named(header: &str) -> Vec<&str> {
+    let defined = header.split("#define ").skip(1);
+    let enums = header.split("enum {").skip(1);
+    let listed = enums.flat_map(|text| text.split('}').next().unwrap_or_default().split(','));
+    let names = defined.chain(listed).map(str::split_whitespace);
+    names.filter_map(|mut words| words.next()).collect()
+}
 
 /// The header has no other name, and as many codes of each form as the wrapper.
 #[test]
 fn names() {
     let header = header();
+    for name in named(&header) {
+        assert!(name.starts_with("CARV_"), "{name}");
+    }
     let words = header.split(|letter: char| !letter.is_alphanumeric() && letter != '_');
     let names: BTreeSet<&str> = words.filter_map(|it| it.strip_prefix("CARV_")).collect();
     let begins = |name: &str, forms: &[&str]| forms.iter().any(|form| name.starts_with(form));
     let others = names.iter().copied();
-    let others = others.filter(|name| !begins(name, &CODES) && !begins(name, &WORDS));
+    let forms = WORDS.map(|(form, _)| form);
+    let others = others.filter(|name| !begins(name, &CODES) && !begins(name, &forms));
     let constants = CONSTANTS.into_iter().map(|(name, _)| name);
     let expected = constants.chain(["H", "ACCEPTED"]).collect::<BTreeSet<_>>();
     assert_eq!(others.collect::<BTreeSet<_>>(), expected);
@@ -105,11 +131,11 @@ fn names() {
         Cause::ALL.len() + 1,
         Refusal::LISTED.len(),
     ];
-    for (form, count) in CODES.into_iter().zip(counts) {
+    for (form, count) in CODES.into_iter().zip(counts).chain(WORDS) {
         let named = names.iter().filter(|name| name.starts_with(form));
         assert_eq!(named.count(), count, "{form}");
     }
-    for name in names.iter().filter(|name| begins(name, &WORDS)) {
+    for name in names.iter().filter(|name| begins(name, &forms)) {
         assert!(constant(&format!("CARV_{name}")) < c::ANSWER_WORDS as u64);
     }
 }
@@ -215,9 +241,19 @@ fn refusals_in_code() -> Refusals {
 
 /// The refusals of the definitions: every number that is declared there, by the line that says which.
 fn refusals_in_definitions() -> Refusals {
-    let declared = DEFINITIONS.lines().filter_map(|line| {
-        let declared = line.strip_suffix(" : ℕ")?;
-        declared.split(' ').next_back()
+    let is_code = |line: &&str| !line.is_empty() && !line.starts_with("--");
+    let lines = DEFINITIONS.lines().filter(is_code);
+    // What is neither a declaration nor its one line of definition is an import.
+    let declared = lines.filter(|line| !line.starts_with("use ") && !line.contains(" = "));
+    let declared = declared.filter_map(|line| {
+        let declared = line
+            .strip_prefix("abbrev pub ")
+            .and_then(|it| it.split_once(" : "));
+        match declared.unwrap_or_else(|| panic!("no declaration: {line}")) {
+            (name, "ℕ") => Some(name),
+            (name, "ℕ → Bool") if name.starts_with("added") => None,
+            _ => panic!("no refusal: {line}"),
+        }
     });
     let named = declared.map(|name| {
         let mut lines = DEFINITIONS.lines();

@@ -47,11 +47,16 @@ fn refusals_in_layout(name: &str) -> Vec<u64> {
         format!("| `carv_{name}` |"),
         format!("| `carv_{name}`, reads |"),
     ];
-    let mut rows = LAYOUT.lines();
-    let row = rows.find(|row| begins.iter().any(|begin| row.starts_with(begin)));
+    let rows = LAYOUT.lines();
+    let mut rows = rows.filter(|row| begins.iter().any(|begin| row.starts_with(begin)));
+    let (row, second) = (rows.next(), rows.next());
+    assert_eq!(second, None, "{name}");
     let numbers = row.and_then(|row| row.trim_end_matches('|').rsplit('|').next());
     let numbers = numbers.expect("a row of the function").split(',');
-    let numbers = numbers.map(|number| number.trim().trim_end_matches(" (the lengths alone)"));
+    let numbers = numbers.map(|number| match number.trim() {
+        "1 (the lengths alone)" => "1",
+        number => number,
+    });
     let numbers = numbers.filter(|number| !number.is_empty());
     let numbers = numbers.map(|number| number.parse());
     numbers.collect::<Result<_, _>>().expect("numbers")
