@@ -168,6 +168,9 @@ enum {
 /* Of carv_charge_of. */
 enum { CARV_CHARGE_PAYER = 0, CARV_CHARGE_BYTES = 1 };
 
+/* Of carv_totals. */
+enum { CARV_TOTALS_MEMORY_USED = 0, CARV_TOTALS_MEMORY_FREE = 1, CARV_TOTALS_CPU_LEFT = 2 };
+
 /* Of carv_kill: the wait that it ended, or 0 and 0. */
 enum { CARV_KILL_WAIT_KIND = 0, CARV_KILL_WAIT_NUMBER = 1 };
 
@@ -275,6 +278,15 @@ uint64_t carv_account(const uint8_t *area, size_t area_bytes, uint64_t id, uint6
 /* Words 0 and 1: an object's payer and charge, see CARV_CHARGE_. Refused with 7. */
 uint64_t carv_charge_of(const uint8_t *area, size_t area_bytes, uint64_t id, uint64_t *out,
                         size_t out_words);
+
+/*
+ * Words 0 to 2: memory used, memory free and CPU left, each summed over a budget and all budgets
+ * below it, at any depth, see CARV_TOTALS_. Free is limit less used less reserved; used and free
+ * together are the budget's memory limit. It renews nothing: CPU left is as the accounts have it.
+ * Refused with 7.
+ */
+uint64_t carv_totals(const uint8_t *area, size_t area_bytes, uint64_t id, uint64_t *out,
+                     size_t out_words);
 
 /* Threads. */
 

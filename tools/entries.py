@@ -37,6 +37,7 @@ REGISTRY, CALLS = 'registry', [
     ('pays_for_anything', 'id: u64', 'pays-for-anything', 'registry', True, 'Does another object have this payer?'),
     ('account', 'id: u64', 'read-account', 'registry', True, 'The account of a budget.'),
     ('charge_of', 'id: u64', 'charge-of', 'registry', True, 'The payer and the charge of an object.'),
+    ('totals', 'id: u64', 'read-totals', 'registry', True, 'A budget with all below it, summed.'),
     ('start', 'id: u64, space: u64, cspace: u64, root: u64, context: Context', 'start', 'calls', False, 'An Inactive thread is Ready.'),
     ('block_current', 'kind: u64, number: u64', 'block-current', 'calls', False, 'The current thread is Blocked on this wait.'),
     ('wake', 'id: u64, results: Results', 'wake', 'ticking', False, 'A Blocked thread is Ready, with these results.'),
@@ -49,6 +50,8 @@ REGISTRY, CALLS = 'registry', [
     ('switches', '', 'read-switches', 'calls', True, 'How many context switches there were.'),
     ('exit_of', 'id: u64', 'exit-of', 'exits', True, 'Why a thread ended, by the exit log.'),
 ]
+# Where a registry call's definition stands, if not in Registry.antt.
+FILES = {'read-totals': 'Totals'}
 STRUCTS = {
     'Context': ['rip', 'rsp', 'rflags', 'rdi', 'rsi', 'cs', 'ss'],
     'Results': ['first', 'second', 'third'],
@@ -94,7 +97,7 @@ def entry(name, params, definition, module, reading, comment):
     answers = '== %s\nuse Rattle.carv_scheduler.specs.laws.Entry.{entry-refused, entry-sound, entry-served}\n' % name
     served = '@%s .ensures' % place
     if module == REGISTRY:
-        answers += 'use Rattle.carv_scheduler.specs.laws.OnRegistry.{registry-serves}\nuse Rattle.carv_objects_spec.specs.Registry.{%s}\n' % definition
+        answers += 'use Rattle.carv_scheduler.specs.laws.OnRegistry.{registry-serves}\nuse Rattle.carv_objects_spec.specs.%s.{%s}\n' % (FILES.get(definition, 'Registry'), definition)
         served = 'registry-serves (%s) _ _ _ (%s)' % (' '.join([definition] + ['%' + n for n in names]), served)
     answers += 'returns := entry-refused _ _ _ (@is-sound .ensures) (@if1 .taken)\n'
     answers += '%s-requires := entry-sound _ _ (@is-sound .ensures) (@if1 .left)\n' % place

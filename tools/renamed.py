@@ -17,7 +17,7 @@ CRATES = {'carv_registry': 'carv_objects_spec', 'carv_board': 'carv_scheduler_sp
 # The modules that hold theorems, or serve proofs only: they stand in specs/laws now, some under another name.
 LAWS = {
     'carv_budget': 'Edges Laws>Account Refines',
-    'carv_registry': 'SoundFacts SoundLaws Steps Kept Refines History Demand2 Questions Edges',
+    'carv_registry': 'SoundFacts SoundLaws Steps Kept Refines History Demand2 Questions Edges BelowLaws>Within TotalsLaws>Totals',
     'carv_board': 'SoundFacts Reading SoundLaws Steps Switching Kept Questions Refines Following History Demand2 Demand3 Edges',
     'carv_objects': 'Rows Formed AreaSteps AreaLaws SoundWalk SoundPlace SoundTurn SoundBridge AreaExact Booked Calls CallSteps Cpu Opening Entry',
     'carv_scheduler': 'Rows Formed AreaSteps Room AreaLaws AreaExact Calls RowWords Places CallSteps OnRegistry Entry Opening Waking Ticking Walk '
@@ -37,8 +37,11 @@ def rules(*pairs):
 
 
 # Words, by the crates in whose files they are rewritten.
-OF_REGISTRY = rules(('Answers', 'RegistryReply'), ('answers', 'replies'), ('rust-answers', 'rust-replies'), ('answers-rust', 'replies-rust'))
-OF_BOARD = rules((r'registry\.Answers', 'registry.RegistryReply'), ('Answers', 'BoardReply'), ('answers', 'replies'), ('rust-answers', 'rust-replies'),
+# P1 landed with `within` for what the patterns call `below`.
+OF_P1 = rules((r'below(?= r)', 'within'), (r'specs\.Below', 'specs.Within'), (r'\{meets, below\}', '{meets, within}'), (r'(?<=Within\.)\{below\}', '{within}')) + rules(
+    *(('below-' + n, 'within-' + n) for n in 'step root self le trans'.split()), ('carried-below', 'carried-within'), ('root-above', 'within-the-root'))
+OF_REGISTRY = OF_P1 + rules(('Answers', 'RegistryReply'), ('answers', 'replies'), ('rust-answers', 'rust-replies'), ('answers-rust', 'replies-rust'))
+OF_BOARD = OF_P1 + rules((r'registry\.Answers', 'registry.RegistryReply'), ('Answers', 'BoardReply'), ('answers', 'replies'), ('rust-answers', 'rust-replies'),
     ('answers-rust', 'replies-rust'), ('Payer', 'BudgetId'), ('no-payer', 'no-budget-id'), ('payer-at', 'budget-id-at'), ('payer-id', 'budget-named'),
     ('read_payer', 'read_budget_id'), ('read-payer', 'read-budget-id'), (r'\(payer budget\)', '(budget-id budget)'), (r'\(payer i\)', '(budget-id i)'),
     ('Space', 'Spaces'), ('no-space', 'no-spaces'), ('in-space', 'in-spaces'), ('space-at', 'spaces-at'), ('set-place', 'set-spaces'),

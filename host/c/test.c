@@ -36,6 +36,7 @@ static void all_are_refused(size_t bytes, size_t words) {
     REFUSED(n, carv_pays_for_anything(area, bytes, 1, out, words));
     REFUSED(n, carv_account(area, bytes, 1, out, words));
     REFUSED(n, carv_charge_of(area, bytes, 1, out, words));
+    REFUSED(n, carv_totals(area, bytes, 1, out, words));
     REFUSED(n, carv_create_user_thread(area, bytes, 7, 1, true, IMAGE, out, words));
     REFUSED(n, carv_start(area, bytes, 7, 0, 0, 0, 0, 0, 0, 0, 0, 0, 0, out, words));
     REFUSED(n, carv_block_current(area, bytes, CARV_WAIT_SEND, 0, out, words));
@@ -297,6 +298,9 @@ static void missing(void) {
     REFUSED(CARV_REFUSED_MISSING, carv_account(AREA, 3, OUT));
     REFUSED(CARV_REFUSED_MISSING, carv_account(AREA, 2, OUT));
     REFUSED(CARV_REFUSED_MISSING, carv_charge_of(AREA, 3, OUT));
+    REFUSED(CARV_REFUSED_MISSING, carv_totals(AREA, 3, OUT));
+    REFUSED(CARV_REFUSED_MISSING, carv_totals(AREA, 2, OUT));
+    REFUSED(CARV_REFUSED_MISSING, carv_totals(AREA, UINT64_MAX, OUT));
     READS(carv_pays_for_anything(AREA, 3, OUT), 0);
     REFUSED(CARV_REFUSED_MISSING, carv_refill(AREA, 2, 25000000, OUT));
     REFUSED(CARV_REFUSED_MISSING, carv_charge_cpu(AREA, 3, 0, 0, OUT));
@@ -398,6 +402,39 @@ static void removals(void) {
     ROOT_IS(10000000, 0, 0, 0, 0);
     ANSWER(carv_refill(AREA, 1, 20000000, OUT), 1);
     ROOT_IS(20000000, 10000000, 0, 0, 0);
+}
+
+/*
+ * Budget 2 carves out 3, which carves out 4; 5 stands beside 2. Each pays for an object. Totals of
+ * all of them, after a renewal of 4 alone, and without it.
+ */
+static void totals(void) {
+    open_board(1000000);
+    READS(carv_totals(AREA, CARV_ROOT, OUT), 0, 1000000, 10000000);
+    ANSWER(carv_create_budget(AREA, 1, 5000000, 100000, 0, OUT), 2);
+    ANSWER(carv_create_budget(AREA, 2, 2000000, 50000, 0, OUT), 3);
+    ANSWER(carv_create_budget(AREA, 3, 500000, 10000, 0, OUT), 4);
+    ANSWER(carv_create_budget(AREA, 1, 1000000, 20000, 0, OUT), 5);
+    ANSWER(carv_create(AREA, CARV_KIND_FRAME, 2, true, OUT), 6);
+    ANSWER(carv_create(AREA, CARV_KIND_ADDRESS_SPACE, 3, true, OUT), 7);
+    ANSWER(carv_create(AREA, CARV_KIND_REPLY, 4, true, OUT), 8);
+    ANSWER(carv_create(AREA, CARV_KIND_FRAME, 5, true, OUT), 9);
+    DONE(carv_charge_cpu(AREA, 4, 100000, 0, OUT));
+    READS(carv_totals(AREA, 4, OUT), 64, 9936, 400000);
+    READS(carv_totals(AREA, 3, OUT), 16576, 33424, 1900000);
+    READS(carv_totals(AREA, 2, OUT), 20800, 79200, 4900000);
+    READS(carv_totals(AREA, 5, OUT), 4096, 15904, 1000000);
+    READS(carv_totals(AREA, CARV_ROOT, OUT), 25152, 974848, 9900000);
+    CHECK(out[CARV_TOTALS_MEMORY_USED] + out[CARV_TOTALS_MEMORY_FREE] == 1000000);
+    CHECK(out[CARV_TOTALS_CPU_LEFT] == 9900000);
+    REFUSED(CARV_REFUSED_MISSING, carv_totals(AREA, 8, OUT));
+    ANSWER(carv_refill(AREA, 4, 30000000, OUT), 1);
+    READS(carv_totals(AREA, 2, OUT), 20800, 79200, 5000000);
+    DONE(carv_remove(AREA, 8, 0, OUT));
+    DONE(carv_remove(AREA, 4, 0, OUT));
+    REFUSED(CARV_REFUSED_MISSING, carv_totals(AREA, 4, OUT));
+    READS(carv_totals(AREA, 2, OUT), 20608, 79392, 4500000);
+    READS(carv_totals(AREA, CARV_ROOT, OUT), 24960, 975040, 9500000);
 }
 
 /* A full table, and the last id. */
@@ -632,6 +669,7 @@ int main(void) {
     kinds();
     carvings();
     removals();
+    totals();
     full_objects();
     thread_0();
     new_threads();

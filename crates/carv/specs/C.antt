@@ -7,6 +7,7 @@ use lib.Dec.{eqb}
 use lib.ListN.{length, set}
 use lib.Seq.{sets}
 use Rattle.carv_budget.specs.declared.Account.{Account}
+use Rattle.carv_objects_spec.specs.declared.Totals.{Totals}
 use Rattle.carv_objects.specs.declared.Answer as registry
 use Rattle.carv_objects.specs.declared.Answer.the-variants as registry-answer
 use Rattle.carv_scheduler_spec.specs.declared.Thread.{Thread}
@@ -24,6 +25,10 @@ abbrev pub account-words : Account → List ℕ
 account-words a =
     a .«cpu_allowance» ∷ a .«memory_limit» ∷ a .«period_start» ∷ a .«cpu_left» ∷ a .«cpu_reserved» ∷ a .«memory_used» ∷ a .«memory_reserved» ∷ []
 
+-- the words of a budget's totals: memory used, memory free, CPU left
+abbrev pub totals-words : Totals → List ℕ
+totals-words t = t .«memory_used» ∷ t .«memory_free» ∷ t .«cpu_left» ∷ []
+
 -- the words of a thread record
 abbrev pub record-words : Thread → List ℕ
 record-words t =
@@ -31,7 +36,8 @@ record-words t =
     ∷ t .context .rip ∷ t .context .rsp ∷ t .context .rflags ∷ t .context .rdi ∷ t .context .rsi ∷ t .context .cs ∷ t .context .ss
     ∷ t .results .first ∷ t .results .second ∷ t .results .third ∷ t .ticks ∷ []
 
--- the answer words out with the values of a registry's answer: an id; 1 or 0 for yes or no; the seven figures; a payer and a charge
+-- the answer words out with the values of a registry's answer: an id; 1 or 0 for yes or no; the seven figures; a payer and a charge;
+-- the three totals
 abbrev pub registry-reported : registry.Answer → List ℕ → List ℕ
 registry-reported registry-answer.Done out = out
 registry-reported (registry-answer.Id i) out = set out 0 i
@@ -41,6 +47,7 @@ registry-reported registry-answer.Pays out = set out 0 1
 registry-reported registry-answer.PaysNothing out = set out 0 0
 registry-reported (registry-answer.AccountOf a) out = sets out 0 (account-words a)
 registry-reported (registry-answer.Charge p n) out = sets out 0 (p ∷ n ∷ [])
+registry-reported (registry-answer.TotalsOf t) out = sets out 0 (totals-words t)
 registry-reported (registry-answer.Refused n) out = out
 
 -- and of the board's: a switch is 1, the old id, the new id, and 1 and the root, or 0 for the kernel's; a wait that was ended is its kind and number, or 0 and 0; a cause,

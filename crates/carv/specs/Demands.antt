@@ -14,9 +14,11 @@ use Rattle.carv_objects_spec.specs.Registry.{is-budget}
 use Rattle.carv_objects_spec.specs.Panics as panics
 use Rattle.carv_objects_spec.specs.Book as objects
 use Rattle.carv_objects_spec.specs.Book.{Differences, is-live, budget-of}
+use Rattle.carv_objects_spec.specs.BookTotals.{totals-of}
+use Rattle.carv_objects_spec.specs.Reply.{accept, of-totals}
 use Rattle.carv_scheduler.specs.declared.Answer.{Answer}
 use Rattle.carv_scheduler.specs.Answer.{number, value}
-use Rattle.carv_scheduler_spec.specs.Scheduler.{Board, BoardReply, opening}
+use Rattle.carv_scheduler_spec.specs.Scheduler.{Board, BoardReply, opening, of-registry}
 use Rattle.carv_scheduler.specs.Area.{decode, sound-area, Is}
 use Rattle.carv_scheduler.specs.Image.{register-image, Filled}
 use Rattle.carv.specs.C.{reported, Opens, has-image, Made, Ensures, lent}
@@ -26,7 +28,7 @@ use Rattle.carv_scheduler_spec.specs.Runs.{run, after, Numbered, write-all, Fit
 use Rattle.carv_scheduler_spec.specs.Rust as rust
 use Rattle.carv_scheduler_spec.specs.Panics.{NoPanics}
 use Rattle.carv_scheduler_spec.specs.Demand1.{renewal-left}
-use Rattle.carv_scheduler_spec.specs.Demand2.{rust-run, is-added}
+use Rattle.carv_scheduler_spec.specs.Demand2.{rust-run, compared, is-added}
 use Rattle.carv_scheduler_spec.specs.Demand3.{line-of, figures-of, Planned}
 
 -- a list of calls run on the area a, each on what the last one left; and the last area
@@ -108,9 +110,17 @@ pub record Demand1 : Type 0 where
 
 -- Demand 2: the calls are answered as the Rust's methods, run beside them from the Rust's `new`; a removal as P2's reference, the Rust's `remove` with `refill` put before
 -- `release_child` (Rust.antt of carv_objects_spec).
+
+-- The call e was answered as the Rust replies, z, in all that is compared: `compared` (Demand2.antt of carv_scheduler_spec) leaves out answers that the Rust lacks, P1's totals.
+-- The board that the call left is compared always.
+pub record GivenAsRust (e : Made) (z : BoardReply) : Type 0 where
+  pub reply : BoardReply
+  pub given : GivenAs e reply
+  pub same : compared (e .call) reply ≡ z
+
 abbrev pub AsRust : List Made → Board → Type 0
 AsRust [] b = Unit {0}
-AsRust (e ∷ es) b = GivenAs e (rust-run (e .call) b) × AsRust es (rust-run (e .call) b .after)
+AsRust (e ∷ es) b = GivenAsRust e (rust-run (e .call) b) × AsRust es (rust-run (e .call) b .after)
 
 -- no refusal that document 01 marks as added
 abbrev pub NoneAdded : List Made → Type 0
@@ -150,6 +160,9 @@ pub record ByTheBook (es : List Made) (a : List ℕ) (cpu memory : ℕ) : Type 0
       → is-budget (decode (last es a) .registry) i ≡ true → is-budget (decode (last es′ a′) .registry) i ≡ true
       → (line-of (decode (last es a)) i ≡ line-of (decode (last es′ a′)) i → figures-of (booked es cpu memory) i ≡ figures-of (booked es′ cpu′ memory′) i)
       × (figures-of (booked es cpu memory) i ≡ figures-of (booked es′ cpu′ memory′) i → line-of (decode (last es a)) i ≡ line-of (decode (last es′ a′)) i)
+  -- P1: wherever the list has a reading of totals that is accepted, it answers the totals of the book's figures, and leaves the board
+  pub totals : (front rest : List Made) (e : Made) (i : ℕ) → es ≡ front ++ (e ∷ rest) → e .call ≡ on-objects (objects.read-totals i) → e .returned ≡ 0
+      → GivenAs e (accept (some (of-registry (of-totals (totals-of (booked front cpu memory .objects) i)))) (decode (last front a)))
   -- wherever the list has a planning that is accepted: `Planned` (Demand3.antt) says which thread runs and what is answered, by the book before it
   pub plannings : (front rest : List Made) (e : Made) (n : ℕ) → es ≡ front ++ (e ∷ rest) → e .call ≡ plan n → e .returned ≡ 0
       → (z : BoardReply) × (GivenAs e z × Planned n (booked front cpu memory) z)

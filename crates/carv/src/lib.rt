@@ -2,6 +2,7 @@
 // first answer words. specs/C.antt says which.
 use carv_budget::Account;
 use carv_objects::refused;
+use carv_objects_spec::Totals;
 use carv_scheduler::ACCEPTED;
 use carv_scheduler::Answer;
 use carv_scheduler_spec::Context;
@@ -16,7 +17,7 @@ ghost use Rattle.carv_scheduler_spec.specs.Book.{on-objects, create-user-thread
 ghost use Rattle.carv_scheduler.specs.Answer.{number};
 ghost use Rattle.carv_scheduler.specs.Area.{sound-area};
 ghost use Rattle.carv_scheduler.specs.Image.{Filled};
-ghost use Rattle.carv.specs.C.{account-words, record-words, registry-reported, reported, Exported, ExportedWithImage, Opens};
+ghost use Rattle.carv.specs.C.{account-words, totals-words, record-words, registry-reported, reported, Exported, ExportedWithImage, Opens};
 
 // How many answer words there are.
 const WORDS: usize = 20;
@@ -33,6 +34,16 @@ fn write_account(out: &mut [u64], a: Account)
     out[4] = a.cpu_reserved;
     out[5] = a.memory_used;
     out[6] = a.memory_reserved;
+}
+
+// The totals of a budget in the answer words.
+fn write_totals(out: &mut [u64], t: Totals)
+    requires { ⌜ length (now out) ≡ 20 ⌝ }
+    ensures { λ _. ⌜ now (out .exit) ≡ sets (now (out .entry)) 0 (totals-words t) ⌝ }
+{
+    out[0] = t.memory_used;
+    out[1] = t.memory_free;
+    out[2] = t.cpu_left;
 }
 
 // A thread record in the answer words.
@@ -101,6 +112,10 @@ fn report_registry(answer: carv_objects::Answer, out: &mut [u64]) -> u64
         carv_objects::Answer::Charge(payer, bytes) => {
             out[0] = payer;
             out[1] = bytes;
+            ACCEPTED
+        }
+        carv_objects::Answer::TotalsOf(totals) => {
+            write_totals(out, totals);
             ACCEPTED
         }
         carv_objects::Answer::Refused(number) => number,
@@ -361,6 +376,17 @@ pub extern "C" fn carv_charge_of(area: &[u8], id: u64, out: &mut [u64]) -> u64
         return refused::UNSOUND;
     }
     let answer = carv_scheduler::charge_of(area, id);
+    report(answer, out)
+}
+
+#[no_mangle]
+pub extern "C" fn carv_totals(area: &[u8], id: u64, out: &mut [u64]) -> u64
+    ensures { λ r. ⌜ Exported (on-objects (objects.read-totals id)) (now (area .entry)) (now (out .entry)) r (now (area .entry)) (now (out .exit)) ⌝ }
+{
+    if out.len() != WORDS {
+        return refused::UNSOUND;
+    }
+    let answer = carv_scheduler::totals(area, id);
     report(answer, out)
 }
 

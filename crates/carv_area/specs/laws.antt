@@ -1,5 +1,6 @@
 -- What is proved of the definitions, file by file. `bytes-fixed` in Words: the words and the bytes behind the last whole word are every byte.
 pub mod Table
+pub mod Sums
 pub mod Lists
 pub mod Words
 pub mod Moves

@@ -154,7 +154,7 @@ impl Account {
     }
 
     // Memory neither used nor reserved.
-    fn free(self) -> u64
+    pub fn free(self) -> u64
         requires { ⌜ sound self ≡ true ⌝ }
         ensures { λ r. ⌜ r ≡ free self ⌝ }
     {

@@ -12,6 +12,7 @@ pub mod AreaExact
 pub mod Booked
 pub mod Calls
 pub mod CallSteps
+pub mod TotalSteps
 pub mod Cpu
 pub mod Opening
 pub mod Entry

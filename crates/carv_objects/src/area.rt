@@ -28,6 +28,9 @@ pub const PLACES: usize = 512;
 
 const LAST_ID: u64 = 18_446_744_073_709_551_615;
 
+// A walk over the rows notes where an id stands under its rest by this prime.
+pub const GUESSES: u64 = 509;
+
 // The id of the root budget.
 pub const ROOT: u64 = 1;
 
@@ -60,6 +63,14 @@ pub fn find(a: &[u8], id: u64) -> Found
     ensures { λ r. ⌜ Located no-row (decode (now (a .entry)) .rows) id r ⌝ }
 {
     carv_area::find(&a[TABLE..BYTES], rows::ROW, id)
+}
+
+// The same, where the place guess is tried first.
+pub fn find_near(a: &[u8], id: u64, guess: usize) -> Found
+    requires { ⌜ WellFormed (now a) ⌝ }
+    ensures { λ r. ⌜ Located no-row (decode (now (a .entry)) .rows) id r ⌝ }
+{
+    carv_area::find_near(&a[TABLE..BYTES], rows::ROW, id, guess)
 }
 
 // The id at place i.

@@ -7,6 +7,7 @@ use crate::accounts::Booked;
 use crate::accounts::Carved;
 use crate::area;
 use crate::refused;
+use crate::subtree;
 use carv_area::Found;
 use carv_budget::Account;
 use carv_objects_spec::Entry;
@@ -20,6 +21,7 @@ ghost use Rattle.carv_area.specs.Lookup.{Here};
 ghost use Rattle.carv_budget.specs.Account.{sound, renew};
 ghost use Rattle.carv_objects.specs.declared.Answer.the-variants as answer;
 ghost use Rattle.carv_objects_spec.specs.Registry.{has, object, pays-for, has-place, has-next, budget, add, create, insert, create-budget, charge-more, uncharge, remove, refill, charge-cpu, pays-for-anything, read-account, charge-of};
+ghost use Rattle.carv_objects_spec.specs.Totals.{read-totals};
 ghost use Rattle.carv_objects.specs.Kinds.{kind-needs-backing};
 ghost use Rattle.carv_objects.specs.laws.Booked.{renewal};
 ghost use Rattle.carv_objects.specs.Area.{decode, sound-area, Serves};
@@ -247,6 +249,18 @@ pub fn charge_of(a: &[u8], id: u64) -> Answer
     };
     let e = area::entry_at(a, i);
     Answer::Charge(e.payer, e.charge)
+}
+
+// A budget with all below it, summed.
+pub fn totals(a: &[u8], id: u64) -> Answer
+    requires { ⌜ sound-area (now a) ≡ true ⌝ }
+    ensures { λ r. ⌜ Serves (read-totals id) (now (a .entry)) r (now (a .entry)) ⌝ }
+{
+    let Found::At(i) = area::find_budget(a, id) else {
+        return Answer::Refused(refused::MISSING);
+    };
+    let sums = subtree::sums(a, id, i);
+    Answer::TotalsOf(sums)
 }
 
 // The place of an object that is there.

@@ -9,14 +9,17 @@ mod opening;
 pub mod refused;
 mod rows;
 mod sound;
+mod subtree;
 
 pub use area::BYTES;
 use carv_budget::Account;
+use carv_objects_spec::Totals;
 pub use kinds::Kind;
 pub use kinds::KindCode;
 pub use opening::open;
 pub use sound::is_sound;
 ghost use Rattle.carv_objects_spec.specs.Registry.{create, insert, create-budget, charge-more, uncharge, remove, refill, charge-cpu, pays-for-anything, read-account, charge-of};
+ghost use Rattle.carv_objects_spec.specs.Totals.{read-totals};
 ghost use Rattle.carv_objects.specs.Area.{Answered, Opened};
 
 // What a call answers: specs/Answer.antt gives document 01's number and the values.
@@ -29,6 +32,7 @@ pub enum Answer {
     PaysNothing,
     AccountOf(Account),
     Charge(u64, u64),
+    TotalsOf(Totals),
     Refused(u64),
 }
 
@@ -142,4 +146,14 @@ pub fn charge_of(area: &[u8], id: u64) -> Answer
         return Answer::Refused(refused::UNSOUND);
     }
     calls::charge_of(area, id)
+}
+
+// A budget with all below it, summed.
+pub fn totals(area: &[u8], id: u64) -> Answer
+    ensures { λ r. ⌜ Answered (read-totals id) (now (area .entry)) r (now (area .entry)) ⌝ }
+{
+    if !is_sound(area) {
+        return Answer::Refused(refused::UNSOUND);
+    }
+    calls::totals(area, id)
 }

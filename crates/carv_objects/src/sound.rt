@@ -15,9 +15,6 @@ ghost use Rattle.carv_area.specs.Zero.{allZero};
 ghost use Rattle.carv_objects.specs.Area.{sound-area};
 ghost use Rattle.carv_objects.specs.laws.SoundWalk.{Tells, Plain, Rise, Place, Owner, Front, Walk, Whole, Turned, Took, ReservedFor, SoundTable};
 
-// Where an id stands is noted under its rest by this prime.
-const GUESSES: u64 = 509;
-
 // Is an entry in order by itself?
 fn is_plain(e: Entry) -> bool
     ensures { λ r. ⌜ Tells r (Plain e) ⌝ }
@@ -204,13 +201,13 @@ fn whole(t: &[u8], n: usize, next: u64) -> bool
     let mut i = 0;
     while i < n {
         let payer = carv_area::get(t, i * rows::ROW + rows::PAYER);
-        let q = (payer % GUESSES) as usize;
+        let q = (payer % area::GUESSES) as usize;
         let guess = places[q];
         if !turn(t, i, next, &mut used, &mut memory, &mut cpu, guess) {
             return false;
         }
         let id = carv_area::get(t, i * rows::ROW + rows::ID);
-        let q = (id % GUESSES) as usize;
+        let q = (id % area::GUESSES) as usize;
         places[q] = i;
         i += 1;
     }

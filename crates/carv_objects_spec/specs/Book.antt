@@ -207,6 +207,7 @@ pub data Call : Type 0 where
   pays-for-anything : (i : ℕ) → Call
   read-account : (i : ℕ) → Call
   charge-of : (i : ℕ) → Call
+  read-totals : (i : ℕ) → Call
 
 -- what an accepted call writes
 abbrev pub accepted : Call → Book → Book
@@ -225,6 +226,7 @@ accepted (charge-cpu i ns time) k = on-budget i (λ b. take-cpu ns (renew time b
 accepted (pays-for-anything i) k = k
 accepted (read-account i) k = k
 accepted (charge-of i) k = k
+accepted (read-totals i) k = k
 
 -- "refused with 12, a CPU charge renews, as does a carve-out with at least 128 bytes free by the book"
 abbrev pub refused-12 : Call → Book → Book
@@ -239,6 +241,7 @@ refused-12 (charge-cpu i ns time) k = on-budget i (renew time) k
 refused-12 (pays-for-anything i) k = k
 refused-12 (read-account i) k = k
 refused-12 (charge-of i) k = k
+refused-12 (read-totals i) k = k
 
 -- "other refusals move nothing"
 abbrev pub write : Call → (number : ℕ) → Book → Book

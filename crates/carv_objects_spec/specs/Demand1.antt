@@ -7,7 +7,7 @@ use lib.Dec.{eqb, leb}
 use Rattle.carv_budget.specs.Account as account
 use Rattle.carv_objects_spec.specs.Registry.{Registry, account-of}
 use Rattle.carv_objects_spec.specs.Registry as registry
-use Rattle.carv_objects_spec.specs.Book.{Call, create, insert, create-budget, charge-more, uncharge, remove, refill, charge-cpu, pays-for-anything, read-account, charge-of}
+use Rattle.carv_objects_spec.specs.Book.{Call, create, insert, create-budget, charge-more, uncharge, remove, refill, charge-cpu, pays-for-anything, read-account, charge-of, read-totals}
 
 -- the budget and the time of the renewal that a call refused with this number leaves, or none. A carve-out renews once the parent has covered its own 128 bytes
 abbrev pub renewal-left : Call → (number : ℕ) → Registry → Option (ℕ × ℕ)
@@ -22,6 +22,7 @@ renewal-left (charge-cpu i ns time) n r = cond (eqb n 12) (some (i, time)) none
 renewal-left (pays-for-anything i) n r = none
 renewal-left (read-account i) n r = none
 renewal-left (charge-of i) n r = none
+renewal-left (read-totals i) n r = none
 
 -- the registry with that renewal
 abbrev pub with-renewal : Option (ℕ × ℕ) → Registry → Registry

@@ -134,6 +134,8 @@ checks (book.charge-cpu i ns time) ids r = charge-cpu i ns time r
 checks (book.pays-for-anything i) ids r = []
 checks (book.read-account i) ids r = []
 checks (book.charge-of i) ids r = []
+-- the Rust has no such method
+checks (book.read-totals i) ids r = []
 
 -- a call that leaves a budget under the next id made it, and took one of the counter
 abbrev pub ids-after : Call → (ids : ℕ) → Registry → ℕ

@@ -3,6 +3,7 @@ use mathlib.Core.Bool.{Bool, cond}
 use mathlib.Core.Option.{Option, none}
 use Prim.Native.Nat.{ℕ}
 use Rattle.carv_budget.specs.declared.Account.{Account}
+use Rattle.carv_objects_spec.specs.declared.Totals.{Totals}
 
 -- number 0, the value and the new state; or the number of the first question missed, no value, and the state as it was left
 pub record Reply (A S : Type 0) : Type 0 where
@@ -16,6 +17,10 @@ module _ {A S : Type 0} where
 
   abbrev pub accept : Option A → S → Reply A S
   accept v s = record { number = 0; value = v; after = s }
+
+  -- a reply without its answer: the state alone
+  abbrev pub without-answer : Reply A S → Reply A S
+  without-answer z = accept none (z .after)
 
 pub record Question : Type 0 where
   pub number : ℕ
@@ -50,3 +55,4 @@ pub data Value : Type 0 where
   pays : Bool → Value
   of-account : Account → Value
   charge : (payer bytes : ℕ) → Value
+  of-totals : Totals → Value

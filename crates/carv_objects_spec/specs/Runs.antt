@@ -4,8 +4,9 @@ use Prim.Native.Nat.{ℕ, _-_}
 use Rattle.carv_budget.specs.declared.Account.{Account}
 use Rattle.carv_objects_spec.specs.Registry as registry
 use Rattle.carv_objects_spec.specs.Registry.{Registry, RegistryReply}
+use Rattle.carv_objects_spec.specs.Totals as totals
 use Rattle.carv_objects_spec.specs.Book as book
-use Rattle.carv_objects_spec.specs.Book.{Book, Figures, Call, create, insert, create-budget, charge-more, uncharge, remove, refill, charge-cpu, pays-for-anything, read-account, charge-of, write}
+use Rattle.carv_objects_spec.specs.Book.{Book, Figures, Call, create, insert, create-budget, charge-more, uncharge, remove, refill, charge-cpu, pays-for-anything, read-account, charge-of, read-totals, write}
 
 -- A list of calls, each on the state that the last one left.
 
@@ -21,6 +22,7 @@ run (charge-cpu i ns time) r = registry.charge-cpu i ns time r
 run (pays-for-anything i) r = registry.pays-for-anything i r
 run (read-account i) r = registry.read-account i r
 run (charge-of i) r = registry.charge-of i r
+run (read-totals i) r = totals.read-totals i r
 
 -- the registry that they leave
 abbrev pub after : List Call → Registry → Registry

@@ -9,3 +9,10 @@ pub struct Entry {
     pub charge: u64,
     pub account: Account,
 }
+
+// A budget with all below it, summed: memory used, memory free, CPU left.
+pub struct Totals {
+    pub memory_used: u64,
+    pub memory_free: u64,
+    pub cpu_left: u64,
+}

@@ -25,6 +25,7 @@ pub use opening::open;
 pub use sound::is_sound;
 ghost use mathlib.Core.Path.{_≡_};
 ghost use Rattle.carv_objects_spec.specs.Registry.{create, insert, create-budget, charge-more, uncharge, remove, refill, charge-cpu, pays-for-anything, read-account, charge-of};
+ghost use Rattle.carv_objects_spec.specs.Totals.{read-totals};
 ghost use Rattle.carv_scheduler_spec.specs.Scheduler.{by-registry, create-user-thread, start, block-current, wake, is-blocked-on, kill, tick, plan, read-thread, read-current, read-switches, exit-of};
 ghost use Rattle.carv_scheduler.specs.Area.{Answered};
 ghost use Rattle.carv_scheduler.specs.Creating.{done, Plain, Created};
@@ -220,6 +221,17 @@ pub fn charge_of(area: &[u8], id: u64) -> Answer
         return Answer::Refused(refused::UNSOUND);
     }
     let answer = registry::charge_of(area, id);
+    Answer::Registry(answer)
+}
+
+// A budget with all below it, summed.
+pub fn totals(area: &[u8], id: u64) -> Answer
+    ensures { λ r. ⌜ Answered (by-registry (read-totals id)) (now (area .entry)) r (now (area .entry)) ⌝ }
+{
+    if !is_sound(area) {
+        return Answer::Refused(refused::UNSOUND);
+    }
+    let answer = registry::totals(area, id);
     Answer::Registry(answer)
 }
 

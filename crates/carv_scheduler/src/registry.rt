@@ -5,6 +5,7 @@ use carv_objects::calls;
 ghost use mathlib.Core.Path.{_≡_};
 ghost use mathlib.Core.Bool.{true};
 ghost use Rattle.carv_objects_spec.specs.Registry.{create, insert, create-budget, charge-more, uncharge, remove, refill, charge-cpu, pays-for-anything, read-account, charge-of};
+ghost use Rattle.carv_objects_spec.specs.Totals.{read-totals};
 ghost use Rattle.carv_scheduler.specs.Area.{sound-area};
 ghost use Rattle.carv_scheduler.specs.laws.OnRegistry.{ServesRegistry};
 
@@ -83,4 +84,11 @@ pub fn charge_of(a: &[u8], id: u64) -> Answer
     ensures { λ r. ⌜ ServesRegistry (charge-of id) (now (a .entry)) r (now (a .entry)) ⌝ }
 {
     calls::charge_of(&a[0..area::HEAD], id)
+}
+
+pub fn totals(a: &[u8], id: u64) -> Answer
+    requires { ⌜ sound-area (now a) ≡ true ⌝ }
+    ensures { λ r. ⌜ ServesRegistry (read-totals id) (now (a .entry)) r (now (a .entry)) ⌝ }
+{
+    calls::totals(&a[0..area::HEAD], id)
 }

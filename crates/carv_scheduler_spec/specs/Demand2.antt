@@ -1,10 +1,11 @@
--- What demand 2 is said with: what the Rust replies to a call, which refusals are added, and the replies to a list of calls on both sides. Assumes nothing.
+-- What demand 2 is said with: what the Rust replies to a call, what of a reply is compared with it, which refusals are added, and the replies to a list of calls on both
+-- sides. Assumes nothing.
 use mathlib.Core.Path.{_≡_}
-use mathlib.Core.Bool.{Bool, false}
+use mathlib.Core.Bool.{Bool, true, false, cond}
 use mathlib.Core.Option.{none, some}
 use mathlib.Core.List.{List, [], _∷_}
 use Prim.Native.Nat.{ℕ}
-use Rattle.carv_objects_spec.specs.Reply.{accept}
+use Rattle.carv_objects_spec.specs.Reply.{accept, without-answer}
 use Rattle.carv_objects_spec.specs.Demand2 as objects
 use Rattle.carv_scheduler_spec.specs.Scheduler.{Board, BoardReply, is-blocked, record-of, word, exit-cause}
 use Rattle.carv_scheduler_spec.specs.Rust as rust
@@ -29,6 +30,26 @@ rust-run read-current b = accept (some (word (b .current))) b
 rust-run read-switches b = accept (some (word (b .switches))) b
 rust-run (exit-of i) b = accept (some (exit-cause (rust.exit-of i b))) b
 
+-- has the Rust a method for it? carv_objects_spec's Demand2.antt has P1's sentence on answers that the Rust lacks
+abbrev pub in-rust : Call → Bool
+in-rust (on-objects c) = objects.in-rust c
+in-rust (create-user-thread i budget stack) = true
+in-rust (start i space cspace root context) = true
+in-rust (block-current kind number) = true
+in-rust (wake i r) = true
+in-rust (is-blocked-on i kind number) = true
+in-rust (kill i cause) = true
+in-rust (tick n) = true
+in-rust (plan n) = true
+in-rust (read-thread i) = true
+in-rust read-current = true
+in-rust read-switches = true
+in-rust (exit-of i) = true
+
+-- what demand 2 compares of a reply: of a call that the Rust lacks only the board that it leaves
+abbrev pub compared : Call → BoardReply → BoardReply
+compared c z = cond (in-rust c) z (without-answer z)
+
 -- a refusal number of a call that document 01 marks as added
 abbrev pub is-added : Call → ℕ → Bool
 is-added (on-objects c) n = objects.is-added c n
@@ -45,10 +66,10 @@ is-added read-current n = added n
 is-added read-switches n = added n
 is-added (exit-of i) n = added n
 
--- the answers to a list of calls, each on what the last one left: number, value and board
-abbrev pub replies : List Call → Board → List BoardReply
-replies [] b = []
-replies (c ∷ cs) b = run c b ∷ replies cs (run c b .after)
+-- what is compared of the answers to a list of calls, each on what the last one left: number, value and board
+abbrev pub compared-replies : List Call → Board → List BoardReply
+compared-replies [] b = []
+compared-replies (c ∷ cs) b = compared c (run c b) ∷ compared-replies cs (run c b .after)
 
 -- the same, of the Rust
 abbrev pub rust-replies : List Call → Board → List BoardReply

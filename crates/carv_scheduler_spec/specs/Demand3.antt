@@ -1,5 +1,6 @@
 -- Demand 3 as it is said of the definitions: for every list of calls on one board from an accepted opening, each live budget's line is the book's four figures; two lists leave a
--- budget equal lines exactly when these agree; each accepted planning runs the thread ready longest among those with time left. Assumes nothing.
+-- budget equal lines exactly when these agree; each accepted planning runs the thread ready longest among those with time left. P1's totals are those of the book's figures.
+-- Assumes nothing.
 use mathlib.Core.Path.{_≡_}
 use mathlib.Core.Bool.{Bool, true, false}
 use mathlib.Core.Option.{some}
@@ -9,6 +10,8 @@ use Rattle.carv_budget.specs.Account.{period}
 use Rattle.carv_objects_spec.specs.Registry.{is-budget, account-of}
 use Rattle.carv_objects_spec.specs.Book.{Figures, Differences, figures, is-live, budget-of}
 use Rattle.carv_objects_spec.specs.Runs.{line}
+use Rattle.carv_objects_spec.specs.Totals.{totals}
+use Rattle.carv_objects_spec.specs.BookTotals.{totals-of}
 use Rattle.carv_scheduler_spec.specs.Scheduler.{Board, BoardReply, idle, tick-ns, running, is, thread, root-of, opening, no-switch, switch}
 use Rattle.carv_scheduler_spec.specs.Sound.{member}
 use Rattle.carv_scheduler_spec.specs.Book as book
@@ -72,6 +75,8 @@ pub record Demand3 (cs : List Call) (cpu memory : ℕ) : Type 0 where
       → figures-of (book-after cs cpu memory) i ≡ figures-of (book-after cs′ cpu′ memory′) i)
       × (figures-of (book-after cs cpu memory) i ≡ figures-of (book-after cs′ cpu′ memory′) i
       → line-of (board-after cs cpu memory) i ≡ line-of (board-after cs′ cpu′ memory′) i)
+  -- P1: a budget's totals are those of the book's figures
+  pub totals : (i : ℕ) → totals (board-after cs cpu memory .registry) i ≡ totals-of (book-after cs cpu memory .objects) i
   -- wherever the list has a planning that is accepted
   pub plannings : (front rest : List Call) (n : ℕ) → cs ≡ front ++ (plan n ∷ rest) → run (plan n) (board-after front cpu memory) .number ≡ 0
       → Planned n (book-after front cpu memory) (run (plan n) (board-after front cpu memory))

@@ -68,7 +68,7 @@ last-code n op h t k = omega (arith, above n k, t)
 
 -- a record's call that is not made, and one that is
 module _ (l : List ℕ) (k : ℕ) (a : List ℕ) (c : Call) (e : c ≡ call l k) where
-  pub none-made : (c .op < 1) ⊎ (24 < c .op) → Agrees l k a false a
+  pub none-made : (c .op < 1) ⊎ (25 < c .op) → Agrees l k a false a
   none-made h = not-listed (rw (← e) h) refl refl
 
   pub one-made : (r : ℕ) (a′ out : List ℕ) → Made c a (replicate 20 unwritten) r a′ out → (b : Bool) → Tells b ((r ≡ word l (k + 12)) × (out ≡ recorded l k)) → Agrees l k a b a′

@@ -7,6 +7,7 @@ use Prim.Native.Nat.{ℕ, _+_, _*_, _<_}
 use lib.Dec.{eqb}
 use lib.ListN.{replicate}
 use Rattle.carv_objects_spec.specs.Registry.{create, insert, create-budget, charge-more, uncharge, remove, refill, charge-cpu, pays-for-anything, read-account, charge-of}
+use Rattle.carv_objects_spec.specs.Totals.{read-totals}
 use Rattle.carv_scheduler_spec.specs.Scheduler.{by-registry, create-user-thread, start, block-current, wake, is-blocked-on, kill, tick, plan, read-thread, read-current, read-switches, exit-of}
 use Rattle.carv.specs.C.{Called, Opens, CreatesInC}
 use Rattle.replay_records.specs.Word.{word}
@@ -53,12 +54,13 @@ pub data Made (c : Call) (a out : List ℕ) (r : ℕ) (a′ out′ : List ℕ) :
   current-read : c .op ≡ 22 → Called read-current a out r a out′ → a′ ≡ a → Made c a out r a′ out′
   switches-read : c .op ≡ 23 → Called read-switches a out r a out′ → a′ ≡ a → Made c a out r a′ out′
   exit-read : c .op ≡ 24 → Called (exit-of (c .first)) a out r a out′ → a′ ≡ a → Made c a out r a′ out′
+  totals-read : c .op ≡ 25 → Called (by-registry (read-totals (c .first))) a out r a out′ → a′ ≡ a → Made c a out r a′ out′
 
 -- b tells whether the call of the record from word number k of l on, made on the area a, answers as recorded, and a′ is left; one with a code that is not listed is not made
 -- and does not
 pub data Agrees (l : List ℕ) (k : ℕ) (a : List ℕ) (b : Bool) (a′ : List ℕ) : Type 0 where
   made : (r : ℕ) (out : List ℕ) → Made (call l k) a (replicate 20 unwritten) r a′ out → Tells b ((r ≡ word l (k + 12)) × (out ≡ recorded l k)) → Agrees l k a b a′
-  not-listed : (call l k .op < 1) ⊎ (24 < call l k .op) → b ≡ false → a′ ≡ a → Agrees l k a b a′
+  not-listed : (call l k .op < 1) ⊎ (25 < call l k .op) → b ≡ false → a′ ≡ a → Agrees l k a b a′
 
 -- of the first n records of l, replayed from the area a on, d differ, and a′ is left
 abbrev pub Replays : (a a′ l : List ℕ) (n d : ℕ) → Type 0

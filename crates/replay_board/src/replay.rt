@@ -16,7 +16,7 @@ fn create_user_thread(area: &mut [u8], id: u64, budget: u64, stack: bool, out: &
 
 // The number that the call answers. Its values stand in the first words of out.
 fn make(area: &mut [u8], call: Call, out: &mut [u64]) -> u64
-    requires { ⌜ (1 ≤ call .op) × (call .op ≤ 24) ⌝ }
+    requires { ⌜ (1 ≤ call .op) × (call .op ≤ 25) ⌝ }
     ensures { λ r. ⌜ Made call (now (area .entry)) (now (out .entry)) r (now (area .exit)) (now (out .exit)) ⌝ }
 {
     let op = call.op;
@@ -58,7 +58,8 @@ fn make(area: &mut [u8], call: Call, out: &mut [u64]) -> u64
         21 => carv::carv_read_thread(area, call.first, out),
         22 => carv::carv_current(area, out),
         23 => carv::carv_switches(area, out),
-        _ => carv::carv_exit_of(area, call.first, out),
+        24 => carv::carv_exit_of(area, call.first, out),
+        _ => carv::carv_totals(area, call.first, out),
     }
 }
 
@@ -71,7 +72,7 @@ pub fn matches(area: &mut [u8], buf: &[u8], k: usize) -> bool
     if call.op < 1 {
         return false;
     }
-    if call.op > 24 {
+    if call.op > 25 {
         return false;
     }
     let mut out = [record::UNWRITTEN; 20];

@@ -57,13 +57,13 @@ module _ (op : ℕ) where
   above n h k = omega (arith, h, k)
 
   pub none-listed : (op ≡ 1 → ⊥) → (op ≡ 2 → ⊥) → (op ≡ 3 → ⊥) → (op ≡ 4 → ⊥) → (op ≡ 5 → ⊥) → (op ≡ 6 → ⊥) → (op ≡ 7 → ⊥) → (op ≡ 8 → ⊥) → (op ≡ 9 → ⊥)
-      → (op ≡ 10 → ⊥) → (op ≡ 11 → ⊥) → (op ≡ 12 → ⊥) → (leb 1 op && leb op 12) ≡ false
-  none-listed n1 n2 n3 n4 n5 n6 n7 n8 n9 n10 n11 n12 =
-      refuted (leb 1 op && leb op 12)
+      → (op ≡ 10 → ⊥) → (op ≡ 11 → ⊥) → (op ≡ 12 → ⊥) → (op ≡ 13 → ⊥) → (leb 1 op && leb op 13) ≡ false
+  none-listed n1 n2 n3 n4 n5 n6 n7 n8 n9 n10 n11 n12 n13 =
+      refuted (leb 1 op && leb op 13)
       (λ p.
-      let h : 1 ≤ op = leb-true 1 op (first (leb 1 op) (leb op 12) p) in
-      let k : 13 ≤ op = above 12 (above 11 (above 10 (above 9 (above 8 (above 7 (above 6 (above 5 (above 4 (above 3 (above 2 (above 1 h n1) n2) n3) n4) n5) n6) n7) n8) n9) n10) n11) n12 in
-      omega (arith, k, leb-true op 12 (second (leb 1 op) (leb op 12) p)))
+      let h : 1 ≤ op = leb-true 1 op (first (leb 1 op) (leb op 13) p) in
+      let k : 14 ≤ op = above 13 (above 12 (above 11 (above 10 (above 9 (above 8 (above 7 (above 6 (above 5 (above 4 (above 3 (above 2 (above 1 h n1) n2) n3) n4) n5) n6) n7) n8) n9) n10) n11) n12) n13 in
+      omega (arith, k, leb-true op 13 (second (leb 1 op) (leb op 13) p)))
 
 -- one record more
 pub one-more : (l a : List ℕ) (n d : ℕ) (a₁ a₂ : List ℕ) (c : Call) (y : Reply) (b : Bool) → Replays a a₁ l n d → c ≡ call l (n * 16) → y ≡ reply l (n * 16)

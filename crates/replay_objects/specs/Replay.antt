@@ -5,8 +5,9 @@ use mathlib.Core.List.{List}
 use Prim.Native.Nat.{ℕ, _*_}
 use lib.Dec.{eqb, leb}
 use Rattle.carv_objects.specs.declared.Answer.{Answer}
-use Rattle.carv_objects.specs.declared.Answer.the-variants.{Done, Id, Renewed, NotDue, Pays, PaysNothing, AccountOf, Charge, Refused}
+use Rattle.carv_objects.specs.declared.Answer.the-variants.{Done, Id, Renewed, NotDue, Pays, PaysNothing, AccountOf, Charge, TotalsOf, Refused}
 use Rattle.carv_objects_spec.specs.Registry.{create, insert, create-budget, charge-more, uncharge, remove, refill, charge-cpu, pays-for-anything, read-account, charge-of}
+use Rattle.carv_objects_spec.specs.Totals.{read-totals}
 use Rattle.carv_objects.specs.Area.{Answered, Opened}
 use Rattle.replay_records.specs.Replayed.{Replayed}
 use Rattle.replay_objects.specs.declared.record.Call.{Call}
@@ -35,6 +36,16 @@ replied (AccountOf a) = record {
   seventh = a .«memory_reserved»;
 }
 replied (Charge p n) = numbered 0 p n
+replied (TotalsOf t) = record {
+  number = 0;
+  first = t .«memory_used»;
+  second = t .«memory_free»;
+  third = t .«cpu_left»;
+  fourth = 0;
+  fifth = 0;
+  sixth = 0;
+  seventh = 0;
+}
 replied (Refused n) = numbered n 0 0
 
 -- the test of equality
@@ -57,11 +68,12 @@ pub data Made (c : Call) (a : List ℕ) (x : Answer) (a′ : List ℕ) : Type 0 
   asked : c .op ≡ 10 → Answered (pays-for-anything (c .first)) a x a → a′ ≡ a → Made c a x a′
   read : c .op ≡ 11 → Answered (read-account (c .first)) a x a → a′ ≡ a → Made c a x a′
   charge-read : c .op ≡ 12 → Answered (charge-of (c .first)) a x a → a′ ≡ a → Made c a x a′
+  totals-read : c .op ≡ 13 → Answered (read-totals (c .first)) a x a → a′ ≡ a → Made c a x a′
 
 -- b tells whether the call c on the area a answers the reply y, and a′ is left; one with an op that is not listed is not made and answers none
 pub data Agrees (c : Call) (y : Reply) (a : List ℕ) (b : Bool) (a′ : List ℕ) : Type 0 where
   made : (x : Answer) → Made c a x a′ → b ≡ same (replied x) y → Agrees c y a b a′
-  not-listed : (leb 1 (c .op) && leb (c .op) 12) ≡ false → b ≡ false → a′ ≡ a → Agrees c y a b a′
+  not-listed : (leb 1 (c .op) && leb (c .op) 13) ≡ false → b ≡ false → a′ ≡ a → Agrees c y a b a′
 
 -- of the first n records of l, replayed from the area a on, d differ, and a′ is left
 abbrev pub Replays : (a a′ l : List ℕ) (n d : ℕ) → Type 0

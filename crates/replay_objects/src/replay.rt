@@ -42,6 +42,16 @@ fn reply_of(answer: Answer) -> Reply
             seventh: account.memory_reserved,
         },
         Answer::Charge(payer, bytes) => short(0, payer, bytes),
+        Answer::TotalsOf(totals) => Reply {
+            number: 0,
+            first: totals.memory_used,
+            second: totals.memory_free,
+            third: totals.cpu_left,
+            fourth: 0,
+            fifth: 0,
+            sixth: 0,
+            seventh: 0,
+        },
         Answer::Refused(number) => short(number, 0, 0),
     }
 }
@@ -116,6 +126,7 @@ pub fn matches(area: &mut [u8], call: Call, reply: Reply) -> bool
         10 => replies(carv_objects::pays_for_anything(area, call.first), reply),
         11 => replies(carv_objects::account(area, call.first), reply),
         12 => replies(carv_objects::charge_of(area, call.first), reply),
+        13 => replies(carv_objects::totals(area, call.first), reply),
         _ => false,
     }
 }

@@ -1,8 +1,9 @@
 //! Times the port's calls beside the Rust's.
 //!
 //! [`calls`] times each call on a full board, [`threads`] ticks and plannings in the cases that
-//! matter, [`question`] question 1 alone, [`registry`] the registry's calls on boards of several
-//! sizes. [`about`] says what is measured and how, [`glance`] sums up.
+//! matter, [`question`] question 1 alone, [`totals`](mod@totals) the root's totals beside it,
+//! [`registry`] the registry's calls on boards of several sizes. [`about`] says what is measured and
+//! how, [`glance`] sums up.
 
 pub mod about;
 mod boards;
@@ -15,6 +16,7 @@ mod line;
 mod question;
 mod registry;
 mod threads;
+pub mod totals;
 
 pub use calls::calls;
 pub use line::{HEAD, Less, Line};

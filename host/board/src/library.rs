@@ -29,6 +29,7 @@ pub(crate) fn make(call: Call, Port { area, out, image }: &mut Port) -> u64 {
         Call::PaysForAnything { id } => c::carv_pays_for_anything(area, id, out),
         Call::Account { id } => c::carv_account(area, id, out),
         Call::ChargeOf { id } => c::carv_charge_of(area, id, out),
+        Call::Totals { id } => c::carv_totals(area, id, out),
         Call::CreateUserThread { id, budget, stack } => {
             c::carv_create_user_thread(area, id, budget, stack, image, out)
         }

@@ -169,6 +169,7 @@ impl Model {
             (Op::PaysForAnything, &[id]) => Ok(vec![self.pays(id).into()]),
             (Op::Account, &[id]) => self.budget(id).map(|account| account.words().to_vec()),
             (Op::ChargeOf, &[id]) => self.object(id).map(|row| vec![row.payer, row.charge]),
+            (Op::Totals, &[id]) => self.totals(id),
             (Op::Start, &[id, space, cspace, root, rip, rsp, rflags, rdi, rsi, cs, ss]) => {
                 let context = [rip, rsp, rflags, rdi, rsi, cs, ss];
                 self.start(id, [1, space, cspace, root], context)

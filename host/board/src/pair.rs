@@ -9,6 +9,7 @@ use carv_compare::board::call::{Call, Edit, Op, Step};
 use carv_compare::board::numbers;
 use carv_compare::board::reference::{ANSWER_WORDS, Answer, Reference};
 use carv_compare::board::removal::Removal;
+use carv_compare::board::totals::Whose;
 use carv_oracle::Snapshot;
 
 /// What the answer words hold before each call: a call must leave those without a use as they are.
@@ -23,6 +24,7 @@ pub struct Pair {
     /// The area that the port must have.
     expected: Vec<u8>,
     removal: Option<Removal>,
+    totals: Option<Whose>,
 }
 
 /// What differs, in a sentence.
@@ -43,6 +45,7 @@ impl Pair {
             reference: Reference::default(),
             expected: noise,
             removal: None,
+            totals: None,
         }
     }
 
@@ -59,6 +62,11 @@ impl Pair {
     /// What the last call met, if it was the removal of an object that was there.
     pub fn removal(&self) -> Option<Removal> {
         self.removal
+    }
+
+    /// Whose totals the last call read, if it did.
+    pub fn totals(&self) -> Option<Whose> {
+        self.totals
     }
 
     /// Makes a call on both, compares number, answer words, image, area and soundness, and answers
@@ -82,6 +90,7 @@ impl Pair {
     /// What differs.
     pub fn call(&mut self, call: Call) -> Result<u64, Difference> {
         self.removal = Removal::of(call, self.reference.state());
+        self.totals = Whose::of(call, self.reference.state());
         let answer = self.reference.call(call);
         if self.reference.is_open() && !call.op().is_reading() {
             snapshot::write(self.reference.state(), &mut self.expected);

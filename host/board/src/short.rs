@@ -15,7 +15,8 @@ struct Lists {
 }
 
 /// A budget, its child and objects of both come and go, at times at which a payer is due, is not
-/// yet due, or sees a clock that fell, and memory, CPU time and charges run out.
+/// yet due, or sees a clock that fell, and memory, CPU time and charges run out. The root's totals
+/// are then over three levels, those of id 2 over two, or it is no budget or isn't there.
 const REGISTRY: Lists = Lists {
     before: &[open(PERIOD, 9_000)],
     calls: &[
@@ -39,6 +40,8 @@ const REGISTRY: Lists = Lists {
         pays(2),
         account(2),
         charge_of(3),
+        totals(1),
+        totals(2),
     ],
 };
 
@@ -75,11 +78,13 @@ const THREADS: Lists = Lists {
         blocked_on(7, 2, 3),
         exit_of(7),
         thread(0),
+        account(2),
+        totals(1),
     ],
 };
 
 /// Calls that lists are made of, in each of the two sets.
-pub const CALLS: usize = 20;
+pub const CALLS: usize = 22;
 
 /// Makes every list of up to `depth` calls of each set, each on a board of its own, and compares
 /// after each call. Shorter lists are the beginnings of those of full length.

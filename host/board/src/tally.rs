@@ -4,18 +4,21 @@ use crate::pair::Pair;
 use carv_compare::board::call::{Call, Op};
 use carv_compare::board::numbers::{self, NUMBERS};
 use carv_compare::board::removal::{Clock, Removal, What};
+use carv_compare::board::totals::Whose;
 use carv_compare::board::{BUDGET, IDLE};
 use carv_compare::state::entry;
 use carv_oracle::Snapshot;
 use std::collections::BTreeMap;
 use std::fmt;
 
-/// How often each call gave each number, how far the boards went, and what removals met.
+/// How often each call gave each number, how far the boards went, what removals met, and whose totals
+/// were read.
 #[derive(Clone, Debug, Default, PartialEq, Eq)]
 pub struct Tally {
     calls: [[u64; NUMBERS]; Op::ALL.len()],
     reached: Reached,
     removals: BTreeMap<Removal, u64>,
+    totals: BTreeMap<Whose, u64>,
     /// On the current board.
     kills: u64,
 }
@@ -52,6 +55,16 @@ pub const REMOVALS: [Removals; 3] = [
     }),
 ];
 
+/// The totals that a report counts, with their names.
+pub const TOTALS: [(&str, Whose); Whose::ALL.len()] = [
+    ("of the root", Whose::Root),
+    ("over three levels", Whose::Deep),
+    ("over two levels", Whose::Inner),
+    ("of a leaf", Whose::Leaf),
+    ("of another kind", Whose::NoBudget),
+    ("of a missing id", Whose::Missing),
+];
+
 impl Tally {
     /// Counts a call that gave this number, and was the last of this pair, which lets no number pass
     /// that calls don't answer.
@@ -59,6 +72,9 @@ impl Tally {
         let after = pair.state();
         if let Some(removal) = pair.removal() {
             *self.removals.entry(removal).or_default() += 1;
+        }
+        if let Some(whose) = pair.totals() {
+            *self.totals.entry(whose).or_default() += 1;
         }
         let reached = &mut self.reached;
         reached.objects = reached.objects.max(after.entries.len());
@@ -128,6 +144,11 @@ impl Tally {
             found.map(|(_, count)| count).sum()
         })
     }
+
+    /// How often these totals were read.
+    pub fn totals(&self, whose: Whose) -> u64 {
+        self.totals.get(&whose).copied().unwrap_or(0)
+    }
 }
 
 /// How far a budget is from the root.
@@ -162,6 +183,9 @@ impl fmt::Display for Tally {
                 f,
                 "\nremovals {name}: {due} with the payer due, {not_due} not due, {fallen} with a clock that fell"
             )?;
+        }
+        for (name, whose) in TOTALS {
+            write!(f, "\ntotals {name}: {}", self.totals(whose))?;
         }
         Ok(())
     }

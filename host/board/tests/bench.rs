@@ -41,8 +41,32 @@ fn every_call_is_timed() {
         assert!(printed.contains(part), "{part}");
     }
     let (_, glance) = printed.split_once("at a glance").expect("the last table");
-    let names = Op::ALL.iter().map(|op| op.name()).chain(["image"]);
+    // The Rust lacks totals.
+    let ops = Op::ALL.iter().filter(|op| **op != Op::Totals);
+    let names = ops.map(|op| op.name()).chain(["image"]);
     for name in names {
         assert!(glance.contains(name), "{name}");
     }
+    assert!(printed.contains("| dense     | totals  "), "{printed}");
+    assert!(!glance.contains("totals"), "{glance}");
+}
+
+/// A call asks question 1 first, so it can't take much less.
+#[cfg(not(feature = "mock"))]
+#[test]
+fn totals_are_timed_beside_question_1() {
+    let run = bench("totals");
+    assert_eq!(run.status, Some(0));
+    let rows = run.out.lines().filter(|line| {
+        let ids = ["| dense     |", "| gaps      |", "| far apart |"];
+        ids.iter().any(|ids| line.contains(ids))
+    });
+    let ratios = rows.map(|row| {
+        let ratio = row.trim_end_matches(" |").rsplit(' ').next();
+        ratio.and_then(|ratio| ratio.parse::<f64>().ok())
+    });
+    let ratios: Vec<f64> = ratios.map(|ratio| ratio.expect("a ratio")).collect();
+    assert_eq!(ratios.len(), 7, "{}", run.out);
+    assert!(ratios.iter().all(|ratio| *ratio > 0.8), "{ratios:?}");
+    assert!(run.out.contains("\nThe highest ratio is "), "{}", run.out);
 }

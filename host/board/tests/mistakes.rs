@@ -5,6 +5,7 @@ use carv_board_host::tally::REMOVALS;
 use carv_board_host::{damaged, runs, short, sound};
 use carv_compare::board::numbers;
 use carv_compare::board::removal::Removal;
+use carv_compare::board::totals::Whose;
 
 const SEED: u64 = 1;
 
@@ -26,6 +27,10 @@ fn random_lists_reach_every_answer() {
     for removal in Removal::all() {
         let found = tally.removals(removal);
         assert!(found > 4, "{removal:?}: {found}");
+    }
+    for whose in Whose::ALL {
+        let found = tally.totals(whose);
+        assert!(found > 4, "{whose:?}: {found}");
     }
     let reached = tally.reached();
     assert_eq!((reached.objects, reached.threads), (512, 128));
@@ -51,6 +56,11 @@ fn short_lists_agree() {
         let met = found[..clocks].iter().all(|count| *count > 0);
         assert!(met, "{name}: {found:?}");
     }
+    for whose in Whose::ALL {
+        let is_met = tally.totals(whose) > 0;
+        // Three calls carve no tree of four levels.
+        assert_eq!(is_met, whose != Whose::Deep, "{whose:?}");
+    }
 }
 
 /// The wrong renewals of a removal.
@@ -62,6 +72,28 @@ const REMOVALS_RENEW_WRONGLY: [Mistake; 6] = [
     Mistake::RemovalRenewsTheRemovedInstead,
     Mistake::RefusedRemovalRenews,
 ];
+
+/// Wrong totals.
+const TOTALS_ARE_WRONG: [Mistake; 9] = [
+    Mistake::TotalsLeaveTheBudgetOut,
+    Mistake::TotalsOfChildrenAlone,
+    Mistake::TotalsOfEveryBudget,
+    Mistake::TotalsOfEveryYoungerBudget,
+    Mistake::TotalsForgetReservations,
+    Mistake::TotalsAsIfRenewed,
+    Mistake::TotalsInTheAccountsOrder,
+    Mistake::TotalsOfOtherKindsAre0,
+    Mistake::TotalsOfMissingIdsAre0,
+];
+
+#[test]
+fn random_and_short_lists_find_mistakes_in_totals() {
+    for mistake in TOTALS_ARE_WRONG {
+        random_lists_find(mistake);
+        let found = with(mistake, || short::short(3));
+        assert!(found.is_err(), "{mistake:?} was not found");
+    }
+}
 
 #[test]
 fn random_lists_find_mistakes_in_the_registry() {
@@ -246,14 +278,26 @@ fn damaged_areas_find_numbers_that_are_not_the_call_s_own() {
     }
 }
 
+/// But totals are compared there with the area's words.
+#[test]
+fn damaged_areas_find_mistakes_in_totals() {
+    let unmet = Mistake::TotalsLeaveOutWhereAStartIsNoMultiple;
+    let by_lists = with(unmet, || runs::first_difference(100_000, SEED));
+    assert!(by_lists.is_ok());
+    let found = with(unmet, || damaged::damaged(8_000, SEED));
+    let why = found.expect_err("a difference");
+    assert!(why.contains("the totals are ["), "{why}");
+}
+
 /// By this seed each of these mistakes is found after a few hundred calls on a board.
-const EARLY: u64 = 5;
+const EARLY: u64 = 6;
 
 #[test]
 fn findings_are_short() {
     for (mistake, most) in [
         (Mistake::IdsGivenAgain, 6),
         (Mistake::RemovalRenewsBehindTheReturn, 4),
+        (Mistake::TotalsOfChildrenAlone, 5),
         (Mistake::AlwaysIdle, 3),
         (Mistake::MissingBudgetHasTime, 8),
         (Mistake::ExitOfGivesNewest, 6),

@@ -59,6 +59,7 @@ fn a_report_is_printed() {
         "the payer can't cover the charge",
         " came.\nOn a sound board no call gave another number.\n\nboards opened",
         "removals                 payer due       not due    clock fell\nof a budget ",
+        "totals                        read\nof the root ",
         "queue ids are distinct",
         "to repeat it: board soak --calls 40000 --seed 3\n",
     ] {
@@ -79,6 +80,7 @@ fn a_report_is_printed() {
         json.contains(",\"removals\":{\"budget\":{\"payer_due\":"),
         "{json}"
     );
+    assert!(json.contains(",\"totals\":{\"root\":"), "{json}");
     assert!(
         json.contains("\"differences\":0,\"difference\":null,"),
         "{json}"
@@ -91,7 +93,7 @@ fn what_never_came_is_told() {
     assert_eq!(run.status, Some(0));
     for part in [
         "1 came; not: open 2, create 0, ",
-        " and 57 more.",
+        " and 59 more.",
         "No area was damaged.",
         ": 1 call (",
     ] {

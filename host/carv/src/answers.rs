@@ -65,6 +65,29 @@ impl Account {
     }
 }
 
+/// Figures of a budget and of all budgets below it, at any depth, each summed up.
+#[derive(Clone, Copy, Debug, PartialEq, Eq, Hash)]
+pub struct Totals {
+    /// The charges that they pay.
+    pub memory_used_bytes: u64,
+    /// What charges and carve-outs find free in them. Together with what is used it is the memory
+    /// limit of the uppermost.
+    pub memory_free_bytes: u64,
+    /// What is left of their CPU time, of each as of its last renewal.
+    pub cpu_left_ns: u64,
+}
+
+impl Totals {
+    /// The totals in the answer words of `carv_totals`.
+    pub(crate) fn decode(words: &Words) -> Self {
+        Self {
+            memory_used_bytes: words[0],
+            memory_free_bytes: words[1],
+            cpu_left_ns: words[2],
+        }
+    }
+}
+
 /// What an object is charged, and to whom.
 #[derive(Clone, Copy, Debug, PartialEq, Eq, Hash)]
 pub struct Charge {

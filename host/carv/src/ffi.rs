@@ -79,6 +79,7 @@ functions! { *const u8, &Area, &[u8], as_ptr, readings:
     carv_pays_for_anything(id: u64);
     carv_account(id: u64);
     carv_charge_of(id: u64);
+    carv_totals(id: u64);
     carv_is_blocked_on(id: u64, kind: u64, number: u64);
     carv_read_thread(id: u64);
     carv_current();

@@ -54,7 +54,7 @@ mod objects;
 mod refusal;
 mod threads;
 
-pub use answers::{Account, Charge, Context, Limits, Space, Switch, ThreadRecord};
+pub use answers::{Account, Charge, Context, Limits, Space, Switch, ThreadRecord, Totals};
 pub use board::Board;
 pub use codes::{Backing, Cause, Kind, State, Wait};
 pub use ffi::c;

@@ -1,6 +1,6 @@
 //! Calls on objects and budgets.
 
-use crate::{Account, Backing, Board, Charge, Kind, Limits, ObjectId, Refusal, ffi};
+use crate::{Account, Backing, Board, Charge, Kind, Limits, ObjectId, Refusal, Totals, ffi};
 
 /// Objects and budgets.
 impl Board {
@@ -235,5 +235,33 @@ impl Board {
             payer: ObjectId(words[0]),
             bytes: words[1],
         })
+    }
+
+    /// Memory used, memory free and CPU left, each summed up over a budget and all budgets that are
+    /// carved out of it, at any depth. Nothing is renewed.
+    ///
+    /// Refused with [`Refusal::Missing`].
+    ///
+    /// ```
+    /// use carv::{Backing, Board, Kind, Limits, ObjectId, Totals};
+    ///
+    /// let mut board = Board::open(Limits { cpu_ns: 10_000_000, memory_bytes: 1_000_000 })?;
+    /// let limits = Limits { cpu_ns: 4_000_000, memory_bytes: 65_536 };
+    /// let counting = board.create_budget(ObjectId::ROOT, limits, 0)?;
+    /// let limits = Limits { cpu_ns: 1_000_000, memory_bytes: 8_192 };
+    /// let camera = board.create_budget(counting, limits, 0)?;
+    /// board.create(Kind::Frame, camera, Backing::There)?;
+    ///
+    /// // The camera's 128 bytes, and the frame that it pays for.
+    /// let totals = Totals {
+    ///     memory_used_bytes: 128 + 4_096,
+    ///     memory_free_bytes: 65_536 - 128 - 4_096,
+    ///     cpu_left_ns: 4_000_000,
+    /// };
+    /// assert_eq!(board.totals(counting)?, totals);
+    /// # Ok::<(), carv::Refusal>(())
+    /// ```
+    pub fn totals(&self, id: ObjectId) -> Result<Totals, Refusal> {
+        ffi::carv_totals(&self.area, id.0).map(|words| Totals::decode(&words))
     }
 }

@@ -1,7 +1,9 @@
 //! What a call answers, and its fields with their names.
 
 use crate::codes::{self, CAUSES, KINDS, STATES, WAITS};
-use carv::{Account, Cause, Charge, Context, ObjectId, Switch, ThreadId, ThreadRecord, Wait};
+use carv::{
+    Account, Cause, Charge, Context, ObjectId, Switch, ThreadId, ThreadRecord, Totals, Wait,
+};
 use carv_layout::area::{self, ObjectRow, ThreadRow};
 use carv_text::json::Json;
 
@@ -22,6 +24,8 @@ pub enum Answer {
     Account(Account),
     /// What an object is charged.
     Charge(Charge),
+    /// Figures of a budget and all below it.
+    Totals(Totals),
     /// Whether a thread is blocked on a wait.
     Blocked(bool),
     /// The wait that a kill ended.
@@ -52,6 +56,7 @@ impl Answer {
                 ("payer", charge.payer.0.into()),
                 ("bytes", charge.bytes.into()),
             ]),
+            Self::Totals(totals) => Json::object(totals_fields(sums(totals))),
             Self::Blocked(yes) => Json::object([("blocked", (*yes).into())]),
             Self::Ended(wait) => {
                 Json::object([("wait", wait.map(|it| wait_json(it.codes())).into())])
@@ -78,6 +83,15 @@ pub fn figures(account: &Account) -> area::Account {
         cpu_reserved: account.cpu_reserved_ns,
         memory_used: account.memory_used_bytes,
         memory_reserved: account.memory_reserved_bytes,
+    }
+}
+
+/// The wrapper's totals as the layout's.
+pub fn sums(totals: &Totals) -> area::Totals {
+    area::Totals {
+        memory_used: totals.memory_used_bytes,
+        memory_free: totals.memory_free_bytes,
+        cpu_left: totals.cpu_left_ns,
     }
 }
 
@@ -121,6 +135,15 @@ pub fn account_fields(account: area::Account) -> Vec<(&'static str, Json)> {
         ("memory_used_bytes", account.memory_used.into()),
         ("memory_reserved_bytes", account.memory_reserved.into()),
         ("memory_free_bytes", account.memory_free().into()),
+    ]
+}
+
+/// The fields of totals.
+pub fn totals_fields(totals: area::Totals) -> [(&'static str, Json); 3] {
+    [
+        ("cpu_left_ns", totals.cpu_left.into()),
+        ("memory_used_bytes", totals.memory_used.into()),
+        ("memory_free_bytes", totals.memory_free.into()),
     ]
 }
 
@@ -221,5 +244,34 @@ mod tests {
         }
         let root = board.account(ObjectId::ROOT).expect("the root");
         assert_eq!(figures(&root), table.objects[0].account);
+    }
+
+    /// The totals by the wrapper are those that the area's words give.
+    #[test]
+    fn totals_are_those_of_the_area() {
+        let limits = |cpu_ns, memory_bytes| Limits {
+            cpu_ns,
+            memory_bytes,
+        };
+        let mut board = Board::open(limits(10_000_000, 100_000)).expect("a share of one period");
+        for (parent, cpu_ns, memory_bytes) in [
+            (1, 4_000_000, 50_000),
+            (2, 3_000_000, 20_000),
+            (1, 1_000_000, 5_000),
+            (4, 2_000_000, 10_000),
+        ] {
+            let carved = board.create_budget(ObjectId(parent), limits(cpu_ns, memory_bytes), 0);
+            let payer = carved.expect("the parent covers it");
+            let frame = board.create(carv::Kind::Frame, payer, Backing::There);
+            frame.expect("the payer covers it");
+            board.charge_cpu(payer, 100, 0).expect("it is left");
+        }
+        let table = area::read(board.as_bytes()).expect("a sound area");
+        let expected = area::totals(&table.objects);
+        assert_eq!(expected.len(), 5);
+        for (id, expected) in expected {
+            let found = board.totals(ObjectId(id)).expect("a budget");
+            assert_eq!(sums(&found), expected, "{id}");
+        }
     }
 }

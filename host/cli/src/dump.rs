@@ -3,7 +3,7 @@
 mod budgets;
 mod tables;
 
-use crate::answer::{account_fields, code_json, object_fields, thread_fields};
+use crate::answer::{account_fields, code_json, object_fields, thread_fields, totals_fields};
 use crate::area::AreaFile;
 use crate::check::figures;
 use crate::codes::CAUSES;
@@ -12,9 +12,10 @@ use crate::names::Names;
 use crate::output::Output;
 use crate::status::{Failure, Status};
 use crate::text::thread_id;
-use carv_layout::area::{self, Exit, ObjectRow, Table, ThreadRow};
+use carv_layout::area::{self, Exit, ObjectRow, Table, ThreadRow, Totals};
 use carv_layout::{BUDGET, sound};
 use carv_text::json::Json;
+use std::collections::BTreeMap;
 use std::path::Path;
 
 /// Prints a file and answers the exit status.
@@ -60,6 +61,7 @@ pub fn text(area: &[u8], names: &Names) -> String {
     let parts = [
         heading + &running + &unreadable.collect::<String>(),
         budgets::text(&table, names),
+        budgets::totals(&table, names),
         tables::objects(&table, names),
         tables::threads(&table, names),
         tables::queue(&table),
@@ -81,6 +83,7 @@ pub fn json(area: &[u8], names: &Names) -> Json {
         ..
     } = &table;
     let budget = |row: &ObjectRow| row.kind == BUDGET;
+    let totals = area::totals(objects);
     let budgets = objects.iter().filter(|row| budget(row));
     let others = objects.iter().filter(|row| !budget(row));
     let board = Json::object([
@@ -90,7 +93,7 @@ pub fn json(area: &[u8], names: &Names) -> Json {
         ("switches", table.switches.into()),
         (
             "budgets",
-            Json::list(budgets.map(|row| budget_json(row, names))),
+            Json::list(budgets.map(|row| budget_json(row, &totals, names))),
         ),
         (
             "objects",
@@ -103,10 +106,12 @@ pub fn json(area: &[u8], names: &Names) -> Json {
     Json::object([("board", board)])
 }
 
-fn budget_json(row: &ObjectRow, names: &Names) -> Json {
+fn budget_json(row: &ObjectRow, totals: &BTreeMap<u64, Totals>, names: &Names) -> Json {
     let mut fields = object_fields(row);
     fields.insert(1, ("name", names.get(row.id).into()));
     fields.extend(account_fields(row.account));
+    let totals = totals.get(&row.id).copied().unwrap_or_default();
+    fields.push(("totals", Json::object(totals_fields(totals))));
     Json::object(fields)
 }
 

@@ -5,7 +5,7 @@ use crate::codes::{self, CAUSES, STATES, WAITS};
 use crate::figures::{bytes, count, ms};
 use crate::names::Names;
 use carv::{Cause, ObjectId, Switch, ThreadId, Wait};
-use carv_layout::area::{Account, ThreadRow};
+use carv_layout::area::{Account, ThreadRow, Totals};
 
 /// The answer of a call with these arguments.
 pub fn answer(answer: &Answer, arguments: &[u64], names: &Names) -> String {
@@ -18,13 +18,16 @@ pub fn answer(answer: &Answer, arguments: &[u64], names: &Names) -> String {
             if *yes { "yes" } else { "no" }.to_string()
         }
         Answer::Account(figures) => {
-            let id = arguments.first().copied().unwrap_or_default();
-            let name = names.get(id).map(|name| format!("{name}: "));
+            let name = name(arguments, names).map(|name| format!("{name}: "));
             name.unwrap_or_default() + &account(&answer::figures(figures))
         }
         Answer::Charge(charge) => {
             let payer = names.id(charge.payer.0);
             format!("{}, paid by {payer}", bytes(charge.bytes))
+        }
+        Answer::Totals(sums) => {
+            let name = name(arguments, names).map(|name| format!("{name} "));
+            name.unwrap_or_default() + &totals(&answer::sums(sums))
         }
         Answer::Ended(None) => "ended, it waited for nothing".to_string(),
         Answer::Ended(Some(it)) => format!("ended, it waited: {}", wait(it.codes().into())),
@@ -36,6 +39,11 @@ pub fn answer(answer: &Answer, arguments: &[u64], names: &Names) -> String {
         Answer::Exit(None) => "no end is logged".to_string(),
         Answer::Exit(Some(cause)) => cause_word(*cause),
     }
+}
+
+/// The name of the budget that is asked for, if it has one.
+fn name<'a>(arguments: &[u64], names: &'a Names) -> Option<&'a str> {
+    names.get(arguments.first().copied().unwrap_or_default())
 }
 
 fn cause_word(cause: Cause) -> String {
@@ -53,6 +61,15 @@ fn account(figures: &Account) -> String {
         bytes(figures.memory_used),
         bytes(figures.memory_reserved),
         bytes(figures.memory_free()),
+    )
+}
+
+fn totals(sums: &Totals) -> String {
+    format!(
+        "with all below it: left {}; memory used {}, free {}",
+        ms(sums.cpu_left),
+        bytes(sums.memory_used),
+        bytes(sums.memory_free),
     )
 }
 
@@ -158,6 +175,15 @@ mod tests {
         is(
             Answer::Account(account),
             "counting: share 4 ms, left 3 ms, reserved 0 ms, period from 0 ms; memory 8,192 B, used 4,096 B, reserved 0 B, free 4,096 B",
+        );
+        let totals = carv::Totals {
+            memory_used_bytes: 4_224,
+            memory_free_bytes: 3_968,
+            cpu_left_ns: 2_500_000,
+        };
+        is(
+            Answer::Totals(totals),
+            "counting with all below it: left 2.5 ms; memory used 4,224 B, free 3,968 B",
         );
         let record = ThreadRecord {
             state: State::Blocked(Wait::Recv(5)),

@@ -2,7 +2,8 @@
 //!
 //! [`call`] has the calls, [`rust`] makes them on the Rust, [`reference`](mod@reference) does so with
 //! the port's added refusals in front. [`numbers`] has what each call can answer, [`removal`] what a
-//! removal meets, [`walk`] random calls, [`record`] the calls as records.
+//! removal meets, [`totals`] whose totals are read, [`walk`] random calls, [`record`] the calls as
+//! records.
 
 pub mod call;
 mod edges;
@@ -12,6 +13,7 @@ pub mod record;
 pub mod reference;
 pub mod removal;
 pub mod rust;
+pub mod totals;
 pub mod walk;
 
 use carv_layout::area;

@@ -17,10 +17,33 @@ pub const BYTES: usize = WORDS * 8;
 /// Words of an answer.
 const VALUES: usize = 7;
 
+/// The calls on a registry, in the order of their numbers in records, which count from 1.
+pub const OPS: [Op; 13] = [
+    Op::Open,
+    Op::Create,
+    Op::Insert,
+    Op::CreateBudget,
+    Op::ChargeMore,
+    Op::Uncharge,
+    Op::Remove,
+    Op::Refill,
+    Op::ChargeCpu,
+    Op::PaysForAnything,
+    Op::Account,
+    Op::ChargeOf,
+    Op::Totals,
+];
+
+/// The number of a call in records; 0 for one on threads.
+fn code(op: Op) -> u64 {
+    let place = OPS.iter().position(|listed| *listed == op);
+    place.map_or(0, |place| place as u64 + 1)
+}
+
 /// One call and the answer that is expected.
 #[derive(Clone, Copy, Debug, PartialEq, Eq)]
 pub struct Record {
-    /// The call, one of the first twelve: word 0.
+    /// The call, one of [`OPS`], whose place says its number: word 0.
     pub op: Op,
     /// Its arguments: words 1 to 4.
     pub arguments: [u64; 4],
@@ -34,7 +57,7 @@ impl Record {
     /// The record's words.
     pub fn words(&self) -> [u64; WORDS] {
         let mut words = [0; WORDS];
-        words[0] = self.op as u64;
+        words[0] = code(self.op);
         words[1..5].copy_from_slice(&self.arguments);
         words[5] = self.number;
         words[6..13].copy_from_slice(&self.values);
@@ -91,6 +114,7 @@ fn call(op: Op, [first, second, third, fourth]: [u64; 4]) -> Call {
         Op::PaysForAnything => pays(first),
         Op::Account => account(first),
         Op::ChargeOf => charge_of(first),
+        Op::Totals => totals(first),
         _ => panic!("{} is no call on a registry", op.name()),
     }
 }
@@ -116,6 +140,16 @@ mod tests {
             record.bytes()[..16],
             [12, 0, 0, 0, 0, 0, 0, 0, 1, 0, 0, 0, 0, 0, 0, 0]
         );
+    }
+
+    /// The first twelve numbers are also the board's.
+    #[test]
+    fn numbers_of_calls() {
+        for (number, op) in (1..).zip(OPS) {
+            assert_eq!(code(op), number);
+            assert_eq!(op as u64 == number, number <= 12, "{op:?}");
+        }
+        assert_eq!((code(Op::Totals), code(Op::Plan)), (13, 0));
     }
 
     #[test]

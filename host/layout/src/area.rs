@@ -5,9 +5,11 @@
 
 mod names;
 mod rows;
+mod totals;
 
 pub use names::name;
 pub use rows::{Account, Exit, ObjectField, ObjectRow, ThreadField, ThreadRow};
+pub use totals::{Totals, totals};
 
 use std::fmt;
 

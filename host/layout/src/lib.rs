@@ -1,8 +1,9 @@
-//! A board's area without the port's library: [`area`] says which word stands where, [`sound`]
-//! which of document 01's rules of soundness it breaks, and where.
+//! A board's area without the port's library: [`area`] says which word stands where and sums up
+//! budgets with all below them, [`sound`] says which of document 01's rules of soundness it breaks,
+//! and where.
 //!
-//! Both are written from `docs/LAYOUT.md` and document 01 alone, so that the port can be compared
-//! with them.
+//! Both are written from `docs/LAYOUT.md` and documents 01 and 02 alone, so that the port can be
+//! compared with them.
 
 pub mod area;
 pub mod sound;

@@ -3,8 +3,8 @@
 //! [`account`] runs the calls on one account alone, [`Board`] those on a whole registry and
 //! scheduler. Both answer with document 01's numbers, for the Rust's own refusals only: what the
 //! port refuses beyond the Rust (the numbers marked + there) is for the caller to avoid. What
-//! document 02 has put into a call is made around the Rust's files: the renewal of
-//! [`Board::remove`].
+//! document 02 asks for is made around the Rust's files: the renewal of [`Board::remove`], and all of
+//! [`Board::totals`].
 //!
 //! `source` holds the Rust's files, which the build script takes from the folder that `CARV_SRC`
 //! names, each with what reads its private fields. `stubs` stands in for what they lean on.

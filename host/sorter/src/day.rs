@@ -4,7 +4,7 @@ use crate::calls::Listed;
 use crate::record::{Day, Entry};
 use crate::services::{BOARD, EVENTS, Event, FIRST, LAST, PERIOD, SERVICES, Service};
 use crate::setup::{Live, switch_off, switch_on};
-use carv::{Board, Limits, ObjectId, Refusal, TICK_NS, ThreadId, Wait};
+use carv::{Board, Limits, ObjectId, Refusal, TICK_NS, ThreadId, Totals, Wait};
 use carv_picture::Doing;
 use carv_text::figures::grouped;
 
@@ -113,15 +113,24 @@ impl Sorter {
         self.parts.iter().position(is_its)
     }
 
-    /// Plans, and notes the memory that each service uses.
+    /// Plans, and notes the memory that each service uses, with all that is carved out of it, and
+    /// that all use.
     fn plan(&mut self, tick: u64) -> Result<(), Refusal> {
         self.board.plan(tick)?;
         for (part, noted) in self.parts.iter().zip(&mut self.day.noted) {
             if let Some(live) = &part.live {
-                let account = self.board.account(live.budget)?;
-                noted.memory = noted.memory.max(account.memory_used_bytes);
+                let totals = self.board.totals(live.budget)?;
+                noted.memory = noted.memory.max(totals.memory_used_bytes);
             }
         }
+        let Totals {
+            memory_used_bytes: used,
+            memory_free_bytes: free,
+            ..
+        } = self.board.totals(ObjectId::ROOT)?;
+        self.day.memory = self.day.memory.max(used);
+        let whole = used.checked_add(free);
+        self.day.memory_lost += u64::from(whole != Some(BOARD.memory_bytes));
         Ok(())
     }
 

@@ -9,7 +9,7 @@ use carv_picture::Trace;
 pub struct Noted {
     /// The run ticks of its threads.
     pub run_ticks: u64,
-    /// The most memory that it used, in bytes.
+    /// The most memory that it used, with all that is carved out of it, in bytes.
     pub memory: u64,
 }
 
@@ -33,6 +33,10 @@ pub struct Day {
     pub diary: Vec<Entry>,
     /// Ticks after which the account of the service that ran didn't say what it was seen to run.
     pub misbooked: u64,
+    /// The most memory that all used, in bytes.
+    pub memory: u64,
+    /// Plannings after which the memory used and free of all was not the board's memory.
+    pub memory_lost: u64,
     /// Is every byte as it was after the refused carve-out?
     pub refused_cleanly: bool,
     /// How many switches there were.
@@ -55,6 +59,8 @@ impl Day {
             noted: Default::default(),
             diary: Vec::new(),
             misbooked: 0,
+            memory: 0,
+            memory_lost: 0,
             refused_cleanly: false,
             switches: 0,
             idle_run_ticks: 0,

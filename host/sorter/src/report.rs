@@ -1,7 +1,7 @@
 //! The day in words: a diary, a table of what each service got against its share, and checks.
 
 use crate::record::Day;
-use crate::services::{PERIOD, PERIODS, SERVICES};
+use crate::services::{BOARD, PERIOD, PERIODS, SERVICES};
 use carv::{PERIOD_NS, TICK_NS};
 use carv_picture::{Rows, Total};
 use carv_text::figures::{grouped, ms, wrapped};
@@ -47,6 +47,10 @@ pub fn checks(day: &Day) -> Vec<Check> {
         (
             "Every service kept to its memory limit.",
             noted().all(|(noted, service)| noted.memory <= service.memory),
+        ),
+        (
+            "At every planning the memory used and free of all was the board's memory.",
+            day.memory_lost == 0,
         ),
         (
             "Counting was never held back.",
@@ -132,6 +136,12 @@ fn table(day: &Day) -> Vec<String> {
         PERIOD - given,
         idle.average_ms(),
         ms(idle.most_ns)
+    ));
+    lines.push(format!(
+        "  {:<12}{:>55}{:>11}",
+        "all",
+        grouped(day.memory),
+        grouped(BOARD.memory_bytes)
     ));
     lines.push(String::new());
     lines.push("  Averages are over the periods in which a service was switched on.".to_string());

@@ -106,6 +106,7 @@ fn the_report_tells() {
         "bag printer on again",
         "upload overruns",
         "\n  idle ",
+        "\n  all ",
         "yes  No service got more than its share in any period.",
     ] {
         assert!(report.contains(text), "{text}");
@@ -146,7 +147,7 @@ fn another(cpu_ns: u64) -> Result<(Board, ObjectId), Refusal> {
 /// Each check sees a day on which what it claims doesn't hold.
 #[test]
 fn checks_fail() {
-    let spoilers: [fn(&mut Day); 7] = [
+    let spoilers: [fn(&mut Day); 8] = [
         |day| {
             let ticks = FIRST..FIRST + PERIOD;
             ticks.for_each(|tick| show_another(&mut day.trace, UPLOAD, TICK_NS, tick));
@@ -154,6 +155,7 @@ fn checks_fail() {
         |day| day.misbooked = 1,
         |day| day.idle_run_ticks += 1,
         |day| day.noted[PRINTER].memory = SERVICES[PRINTER].memory + 1,
+        |day| day.memory_lost = 1,
         |day| show_another(&mut day.trace, COUNTING, 0, FIRST + 1),
         |day| day.refused_cleanly = false,
         |day| day.sound = false,

@@ -26,6 +26,8 @@ report-registry-spec =
     (λ c. search needs)  -- slice-write-out-6
     (λ c. search needs)  -- slice-write-out-7
     (λ c. search needs)  -- enum-known-answer-4
+    (λ c κs. search needs)  -- write-totals-requires
+    (λ c. search needs)  -- enum-known-answer-5
     (λ c. registry-reported-as _ _ (c .enum-told .given .1) _ _ _ refl refl)  -- returns
     (λ c. search needs)  -- same-length
     (λ c. registry-reported-as _ _ (c .before .answer .given .1) _ _ _ refl refl)  -- returns-2
@@ -41,4 +43,6 @@ report-registry-spec =
     (λ c. registry-reported-as _ _ (c .before .before .before .before .before .answer2 .given .1) _ _ _ refl (c .before .before .write-account .ensures))  -- returns-7
     (λ c. search needs)  -- same-length-7
     (λ c. registry-reported-as _ _ (c .before .answer3 .given .1) _ _ _ refl refl)  -- returns-8
-    (λ c. registry-reported-as _ _ (c .before .answer4 .given .1) _ _ _ refl refl))  -- returns-9
+    (λ c. search needs)  -- same-length-8
+    (λ c. registry-reported-as _ _ (c .before .before .before .before .before .answer4 .given .1) _ _ _ refl (c .before .before .write-totals .ensures))  -- returns-9
+    (λ c. registry-reported-as _ _ (c .before .answer5 .given .1) _ _ _ refl refl))  -- returns-10

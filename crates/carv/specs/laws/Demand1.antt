@@ -107,6 +107,7 @@ registry-silent registry-answer.Pays out h = absurd (h refl)
 registry-silent registry-answer.PaysNothing out h = absurd (h refl)
 registry-silent (registry-answer.AccountOf a) out h = absurd (h refl)
 registry-silent (registry-answer.Charge p n) out h = absurd (h refl)
+registry-silent (registry-answer.TotalsOf t) out h = absurd (h refl)
 registry-silent (registry-answer.Refused n) out h = refl
 
 silent : (x : Answer) (out : List ℕ) → (number x ≡ 0 → ⊥) → reported x out ≡ out

@@ -1,4 +1,4 @@
--- Demand 2 is proved: a call that returns no added refusal is answered as the Rust's method, and leaves its board. Assumes nothing.
+-- Demand 2 is proved: a call that returns no added refusal is answered as the Rust's method, where there is one, and leaves its board. Assumes nothing.
 use mathlib.Core.Path.{_≡_, refl, sym, ap, _∙_, subst}
 use mathlib.Core.Bool.{true, false, true≢false}
 use mathlib.Core.List.{List, [], _∷_, map}
@@ -17,7 +17,7 @@ use Rattle.carv_scheduler_spec.specs.Runs.{run, after, AllFit}
 use Rattle.carv_scheduler_spec.specs.laws.Demand2 as definitions
 use Rattle.carv_scheduler_spec.specs.Demand2 as on-definitions
 use Rattle.carv_scheduler_spec.specs.laws.Panics.{opening-no-panics}
-use Rattle.carv_scheduler_spec.specs.Demand2.{rust-run, is-added}
+use Rattle.carv_scheduler_spec.specs.Demand2.{rust-run, compared, is-added}
 use Rattle.carv.specs.Demands.{Ran, GivenAs, AsRust, NoneAdded, AllWords, Demand2}
 use Rattle.carv.specs.laws.Demand1.{pieces, opened-is}
 
@@ -34,6 +34,7 @@ one-registry (objects.charge-cpu i ns time) = refl
 one-registry (objects.pays-for-anything i) = refl
 one-registry (objects.read-account i) = refl
 one-registry (objects.charge-of i) = refl
+one-registry (objects.read-totals i) = refl
 
 one-added : (c : Call) → is-added c 1 ≡ true
 one-added (on-objects c) = one-registry c
@@ -61,10 +62,11 @@ as-rust : (es : List Made) (a : List ℕ) → sound-area a ≡ true → Ran es a
 as-rust [] a s h n b q = tt
 as-rust (e ∷ es) a s h n b q =
     let g = answered a e s (h .0) (n .0) in
-    let r : run (e .call) (decode a) ≡ rust-run (e .call) b =
+    let z = run (e .call) (decode a) in
+    let r : compared (e .call) z ≡ rust-run (e .call) b =
     definitions.run-rust (e .call) (decode a) (area-sound a s) (ap (is-added (e .call)) (sym (g .number)) ∙ n .0) ∙ ap (rust-run (e .call)) q in
-    let g′ : GivenAs e (rust-run (e .call) b) = subst (GivenAs e) r g in
-    (g′, as-rust es (e .left) (g′ .area .sound) (h .1) (n .1) (rust-run (e .call) b .after) (g′ .area .same))
+    let on : decode (e .left) ≡ rust-run (e .call) b .after = g .area .same ∙ sym (definitions.compared-after (e .call) z) ∙ ap (λ (x : BoardReply). x .after) r in
+    (record { reply = z; given = g; same = r }, as-rust es (e .left) (g .area .sound) (h .1) (n .1) (rust-run (e .call) b .after) on)
 
 -- the list of calls on the definitions
 abbrev calls : List Made → List Call

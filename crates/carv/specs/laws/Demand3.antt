@@ -1,15 +1,23 @@
 -- Demand 3 is proved: a list of calls is followed on the definitions, by those of its calls that were lent areas of their length. Assumes nothing.
 use mathlib.Core.Path.{_≡_, refl, sym, ap, _∙_, subst}
-use mathlib.Core.Bool.{true, cond}
+use mathlib.Core.Bool.{true, false, cond, false≢true}
+use mathlib.Core.Option.{some}
 use mathlib.Core.List.{List, [], _∷_, _++_}
 use Prim.Native.Nat.{ℕ, _≤_}
 use native.Mathlib.Omega.{arith}
 use Rattle.carv_area.specs.laws.Table.{test}
 use Rattle.carv_budget.specs.Account.{period}
-use Rattle.carv_objects_spec.specs.Registry.{is-budget}
+use lib.Dec.{eqb}
+use Rattle.carv_objects_spec.specs.declared.Totals.{Totals}
+use Rattle.carv_objects_spec.specs.Reply.{accept, of-totals}
+use Rattle.carv_objects_spec.specs.Registry.{RegistryReply, is-budget}
+use Rattle.carv_objects_spec.specs.Totals.{totals}
+use Rattle.carv_objects_spec.specs.Book as objects
+use Rattle.carv_objects_spec.specs.BookTotals.{totals-of}
+use Rattle.carv_objects_spec.specs.laws.Questions.{read-totals-missing, read-totals-done}
 use Rattle.carv_objects_spec.specs.Book.{Differences, is-live, budget-of}
 use Rattle.carv_scheduler.specs.Answer.{number}
-use Rattle.carv_scheduler_spec.specs.Scheduler.{Board, BoardReply, opening}
+use Rattle.carv_scheduler_spec.specs.Scheduler.{Board, BoardReply, opening, of-registry, on-registry}
 use Rattle.carv_scheduler.specs.Area.{decode, sound-area, Is}
 use Rattle.carv.specs.C.{Opens, Made, Ensures, lent}
 use Rattle.carv_scheduler_spec.specs.Book as book
@@ -126,6 +134,27 @@ module _ (cpu memory : ℕ) (a₀ a out out′ : List ℕ) (o : Opens cpu memory
       zero-one : _≡_ {A = ℕ} 0 1 → ⊥
       zero-one q = omega arith
 
+  -- a reading of totals at the end of a run
+  totals-are : (front : List Made) → Ran front a → AllWords front → (e : Made) → Ensures (last front a) e → (i : ℕ) → e .call ≡ on-objects (objects.read-totals i) → e .returned ≡ 0
+      → GivenAs e (accept (some (of-registry (of-totals (totals-of (booked front cpu memory .objects) i)))) (decode (last front a)))
+  totals-are front h f e m i q r =
+      let d = pieces (last front a) e m in
+      let y : lent e ≡ true = test (lent e) (λ y. y) (λ y. absurd (not-accepted (sym r ∙ d .lengths y .number) refl)) in
+      let b : Board = decode (last front a) in
+      let g : GivenAs e (run (on-objects (objects.read-totals i)) b) =
+      subst (λ (c : Call). GivenAs e (run c b)) q (d .served y (follows front a (start-is .sound) h (book.opening cpu memory) .sound)) in
+      let live : is-budget (b .registry) i ≡ true = test (is-budget (b .registry) i) (λ l. l)
+      (λ l. absurd (not-accepted (sym r ∙ g .number ∙ ap (λ (z : RegistryReply). z .number) (read-totals-missing i (b .registry) l)) refl)) in
+      let same : totals (b .registry) i ≡ totals-of (booked front cpu memory .objects) i =
+      ap (λ (x : Board). totals (x .registry) i) (board-is front h)
+      ∙ definitions-3.demand3 (lent-calls front) cpu memory share (served-fit front f) .totals i
+      ∙ ap (λ (k : Book). totals-of (k .objects) i) (sym (book-is front h)) in
+      subst (GivenAs e)
+      (ap (λ (z : RegistryReply). on-registry z b) (read-totals-done i (b .registry) live) ∙ ap (λ (t : Totals). accept (some (of-registry (of-totals t))) b) same) g
+    where
+      not-accepted : {n : ℕ} → 0 ≡ n → (eqb n 0 ≡ false → ⊥)
+      not-accepted q h = false≢true (sym h ∙ ap (λ (n : ℕ). eqb n 0) (sym q))
+
 ran-front : (front rest : List Made) (e : Made) (a : List ℕ) → Ran (front ++ (e ∷ rest)) a → Ran front a × Ensures (last front a) e
 ran-front [] rest e a h = (tt, h .0)
 ran-front (x ∷ front) rest e a h = let (u, v) = ran-front front rest e (x .left) (h .1) in ((h .0, u), v)
@@ -144,6 +173,9 @@ demand3 cpu memory a₀ a out out′ o es h f = record {
       let e = line-is cpu memory a₀ a out out′ o es h f i l in
       let e′ = line-is cpu′ memory′ b₀ a′ w w′ o′ es′ h′ f′ i l′ in
       (λ q. sym e ∙ q ∙ e′, λ q. e ∙ q ∙ sym e′);
+  totals = λ front rest e i q c r.
+      let (u, v) = ran-front front rest e a (rw q at h) in
+      totals-are cpu memory a₀ a out out′ o front u (words-front front (e ∷ rest) (rw q at f)) e v i c r;
   plannings = λ front rest e n q c r.
       let (u, v) = ran-front front rest e a (rw q at h) in
       planning-is cpu memory a₀ a out out′ o front u (words-front front (e ∷ rest) (rw q at f)) e v n c r;

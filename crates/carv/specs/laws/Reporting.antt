@@ -1,16 +1,23 @@
 -- From an entry point of the board to its C function. Assumes nothing.
-use mathlib.Core.Path.{_≡_, refl}
+use mathlib.Core.Path.{_≡_, refl, ap}
+use mathlib.Core.Option.{some}
 use mathlib.Core.List.{List}
 use Prim.Native.Nat.{ℕ}
+use native.Mathlib.Omega.{arith}
 use lib.ListN.{length}
+use lib.Seq.{sets}
 use borrow.Author.Tests.{eqb-true, eqb-false}
+use Rattle.carv_objects_spec.specs.declared.Totals.{Totals}
+use Rattle.carv_objects_spec.specs.Reply.{of-totals}
 use Rattle.carv_objects.specs.declared.Answer as registry
+use Rattle.carv_objects.specs.declared.Answer.the-variants as of
 use Rattle.carv_objects.specs.Answer as registry-answer
-use Rattle.carv_scheduler_spec.specs.Scheduler.{Board, BoardReply}
+use Rattle.carv_scheduler_spec.specs.Scheduler.{Board, BoardReply, of-registry}
 use Rattle.carv_scheduler.specs.declared.Answer.{Answer}
-use Rattle.carv_scheduler.specs.Answer.{number}
+use Rattle.carv_scheduler.specs.declared.Answer.the-variants.{Done, Registry, NoSwitch, Switch, SwitchToKernel, Ended, EndedNothing, Blocked, NotBlocked, Record, Word, Cause, NoCause, Refused}
+use Rattle.carv_scheduler.specs.Answer.{number, value}
 use Rattle.carv_scheduler.specs.Creating.{Created}
-use Rattle.carv.specs.C.{registry-reported, reported, Returns, CreatesInC}
+use Rattle.carv.specs.C.{totals-words, registry-reported, reported, Returns, CreatesInC}
 
 -- `report`, where the answer x is y
 pub reported-as : (x y : Answer) → x ≡ y → (r : ℕ) (out out′ : List ℕ) → r ≡ number y → out′ ≡ reported y out → (r ≡ number x) × (out′ ≡ reported x out)
@@ -42,3 +49,29 @@ module _ (call : Board → BoardReply) (a m out : List ℕ) where
     size = λ q. absurd (eqb-false (length out) 20 q e);
     reports = λ q. record { answer = x; said = h; number = p .0; values = p .1 };
   }
+
+-- P1: an answer whose value is a budget's totals is reported in the first three answer words
+pub totals-written : (x : Answer) (t : Totals) (out : List ℕ) → value x ≡ some (of-registry (of-totals t)) → reported x out ≡ sets out 0 (totals-words t)
+totals-written (Registry of.Done) t out h = let z : _≡_ {A = ℕ} 0 1 = cc in absurd (omega arith)
+totals-written (Registry (of.Id i)) t out h = let z : _≡_ {A = ℕ} 0 1 = cc in absurd (omega arith)
+totals-written (Registry of.Renewed) t out h = let z : _≡_ {A = ℕ} 0 1 = cc in absurd (omega arith)
+totals-written (Registry of.NotDue) t out h = let z : _≡_ {A = ℕ} 0 1 = cc in absurd (omega arith)
+totals-written (Registry of.Pays) t out h = let z : _≡_ {A = ℕ} 0 1 = cc in absurd (omega arith)
+totals-written (Registry of.PaysNothing) t out h = let z : _≡_ {A = ℕ} 0 1 = cc in absurd (omega arith)
+totals-written (Registry (of.AccountOf a)) t out h = let z : _≡_ {A = ℕ} 0 1 = cc in absurd (omega arith)
+totals-written (Registry (of.Charge p n)) t out h = let z : _≡_ {A = ℕ} 0 1 = cc in absurd (omega arith)
+totals-written (Registry (of.TotalsOf s)) t out h = let q : s ≡ t = cc in ap (λ (x : Totals). sets out 0 (totals-words x)) q
+totals-written (Registry (of.Refused n)) t out h = let z : _≡_ {A = ℕ} 0 1 = cc in absurd (omega arith)
+totals-written Done t out h = let z : _≡_ {A = ℕ} 0 1 = cc in absurd (omega arith)
+totals-written NoSwitch t out h = let z : _≡_ {A = ℕ} 0 1 = cc in absurd (omega arith)
+totals-written (Switch old new root) t out h = let z : _≡_ {A = ℕ} 0 1 = cc in absurd (omega arith)
+totals-written (SwitchToKernel old new) t out h = let z : _≡_ {A = ℕ} 0 1 = cc in absurd (omega arith)
+totals-written (Ended w) t out h = let z : _≡_ {A = ℕ} 0 1 = cc in absurd (omega arith)
+totals-written EndedNothing t out h = let z : _≡_ {A = ℕ} 0 1 = cc in absurd (omega arith)
+totals-written Blocked t out h = let z : _≡_ {A = ℕ} 0 1 = cc in absurd (omega arith)
+totals-written NotBlocked t out h = let z : _≡_ {A = ℕ} 0 1 = cc in absurd (omega arith)
+totals-written (Record s) t out h = let z : _≡_ {A = ℕ} 0 1 = cc in absurd (omega arith)
+totals-written (Word n) t out h = let z : _≡_ {A = ℕ} 0 1 = cc in absurd (omega arith)
+totals-written (Cause n) t out h = let z : _≡_ {A = ℕ} 0 1 = cc in absurd (omega arith)
+totals-written NoCause t out h = let z : _≡_ {A = ℕ} 0 1 = cc in absurd (omega arith)
+totals-written (Refused n) t out h = let z : _≡_ {A = ℕ} 0 1 = cc in absurd (omega arith)

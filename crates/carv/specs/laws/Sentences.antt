@@ -1,5 +1,5 @@
 -- The demands over exported calls, sentence by sentence: each theorem is drawn from `demand1`, `demand2` or `demand3`, with the fields written out. A claim that said less would
--- be refused here. Beside them P2's and P12's sentences, which also rest on what is proved of the definitions, or speak of any sound area. Assumes nothing.
+-- be refused here. Beside them P1's, P2's and P12's sentences, which also rest on what is proved of the definitions, or speak of any sound area. Assumes nothing.
 use mathlib.Core.Path.{_≡_, refl, sym, ap, subst, _∙_}
 use mathlib.Core.Bool.{Bool, true, false, cond, not, _&&_, _||_}
 use mathlib.Core.Option.{none}
@@ -8,19 +8,24 @@ use Prim.Native.Nat.{ℕ, _+_, _-_, _%_, _<_, _≤_}
 use native.Mathlib.Omega.{arith}
 use lib.Dec.{eqb, leb}
 use lib.ListN.{length, getD}
-use borrow.Author.Tests.{ne-eqb}
+use lib.Seq.{sets}
+use borrow.Author.Tests.{eq-eqb, ne-eqb}
 use Rattle.carv_area.specs.Table.{at}
 use Rattle.carv_area.specs.laws.Table.{test}
 use Rattle.carv_budget.specs.Account.{due}
 use Rattle.carv_budget.specs.Panics.{AllPass}
 use Rattle.carv_objects_spec.specs.Registry.{account-of, entry, has, is-budget, payer-of, pays-for, Registry, remove}
 use Rattle.carv_objects_spec.specs.Question15.{remove-asking-15}
+use Rattle.carv_objects_spec.specs.Totals as reading
+use Rattle.carv_objects_spec.specs.Reply.{without-answer}
 use Rattle.carv_objects_spec.specs.Rust as objects-rust
 use Rattle.carv_objects_spec.specs.Book as objects
 use Rattle.carv_objects_spec.specs.Book.{Budget, Figures, budget-of, figures, is-live}
+use Rattle.carv_objects_spec.specs.BookTotals.{summed, totals-of}
 use Rattle.carv_objects_spec.specs.Demand1 as objects-demand1
 use Rattle.carv_objects_spec.specs.laws.SoundLaws.{sound-shown}
 use Rattle.carv_objects_spec.specs.laws.Question15 as question-15
+use Rattle.carv_objects_spec.specs.laws.Totals.{memory-total, cpu-total, root-total}
 use Rattle.carv_objects_spec.specs.laws.Removal as removal
 use Rattle.carv_objects_spec.specs.laws.Removal.{Released, Credited, budget-removed, object-removed}
 use Rattle.carv_scheduler.specs.declared.Answer.{Answer}
@@ -37,10 +42,12 @@ use Rattle.carv_scheduler_spec.specs.Rust as rust
 use Rattle.carv_scheduler_spec.specs.Panics.{NoPanics}
 use Rattle.carv_scheduler_spec.specs.Demand1.{renewal-left}
 use Rattle.carv_scheduler_spec.specs.laws.Demand1.{leaves}
-use Rattle.carv_scheduler_spec.specs.Demand2.{rust-run}
+use Rattle.carv_scheduler_spec.specs.Demand2.{rust-run, in-rust}
+use Rattle.carv_scheduler_spec.specs.laws.Demand2.{compared-after}
 use Rattle.carv_scheduler_spec.specs.Demand3.{Planned}
 use Rattle.carv.specs.C.{reported, Opens, has-image, Made, Ensures, lent}
 use Rattle.carv.specs.Demands.{Ran, last, GivenAs, NoneAdded, AllWords, booked}
+use Rattle.carv.specs.laws.Reporting.{totals-written}
 use Rattle.carv.specs.laws.Demand1.{demand1}
 use Rattle.carv.specs.laws.Demand2.{demand2}
 use Rattle.carv.specs.laws.Demand3.{demand3}
@@ -94,6 +101,7 @@ module _ (a : List ℕ) (e : Made) (h : Ensures a e) where
         of-registry (objects.pays-for-anything i) n r d = refl
         of-registry (objects.read-account i) n r d = refl
         of-registry (objects.charge-of i) n r d = refl
+        of-registry (objects.read-totals i) n r d = refl
 
         no-renewal : (c : Call) (n : ℕ) (b : Board) → (n ≡ 12 → ⊥) → renewal-left c n b ≡ none
         no-renewal (on-objects c) n b d = of-registry c n (b .registry) d
@@ -195,6 +203,45 @@ module _ (a : List ℕ) (e : Made) (h : Ensures a e) where
     pub others-stay : (j : ℕ) → (i ≡ j → ⊥) → (payer ≡ j → ⊥) → at (decode (e .left) .registry .rows) j ≡ at (before .rows) j
     others-stay j p q = subst (λ (x : Registry). at (x .rows) j ≡ at (before .rows) j) left (removal.others-stay i time j before p q)
 
+  -- P1, of `carv_totals` on any sound area, whatever calls led to it or none
+  module _ (i : ℕ) (c : e .call ≡ on-objects (objects.read-totals i)) (y : lent e ≡ true) (s : sound-area a ≡ true) where
+    abbrev registry : Registry
+    registry = decode a .registry
+
+    given : GivenAs e (run (on-objects (objects.read-totals i)) (decode a))
+    given = subst (λ (k : Call). GivenAs e (run k (decode a))) c (demand1 .calls a e h .served y s)
+
+    -- 7 exactly where it is no live budget
+    pub totals-number : e .returned ≡ cond (is-budget registry i) 0 7
+    totals-number = given .number ∙ test (is-budget registry i) (λ l. rw l) (λ l. rw l)
+
+    -- it changes nothing, accepted or refused: the area says the same board, and so has the same bytes
+    pub totals-change-nothing : decode (e .left) ≡ decode a
+    totals-change-nothing = given .area .same ∙ test (is-budget registry i) (λ l. rw l) (λ l. rw l)
+
+    pub totals-leave-bytes : ((k : ℕ) → getD a k 0 < 256) → ((k : ℕ) → getD (e .left) k 0 < 256) → a ≡ e .left
+    totals-leave-bytes x x′ = demand1 .calls a e h .exact y s x′ a x (record { sound = s; same = sym totals-change-nothing ∙ rules-followed y s .1 })
+
+    module _ (l : is-budget registry i ≡ true) where
+      -- "memory used, memory free, CPU left", of the budget with everything carved from it, in the first three answer words; the others stay
+      pub totals-told : e .words′ ≡ sets (e .words) 0 (reading.over reading.used registry i ∷ reading.over reading.free registry i ∷ reading.over reading.left registry i ∷ [])
+      totals-told = given .written ∙ totals-written (given .answer) (reading.totals registry i) (e .words) (given .value ∙ rw l)
+
+      -- "For each budget, used plus free over it and all below must equal its memory limit"
+      pub used-and-free : reading.over reading.used registry i + reading.over reading.free registry i ≡ account-of registry i .«memory_limit»
+      used-and-free = memory-total registry (area-sound a s .registry) i l
+
+      -- CPU left over it and all below is at most its allowance
+      pub left-allowed : reading.over reading.left registry i ≤ account-of registry i .«cpu_allowance»
+      left-allowed = cpu-total registry (area-sound a s .registry) i l
+
+    -- "Root totals are the totals over all live budgets"
+    pub root-totals : i ≡ 1 → e .words′ ≡ sets (e .words) 0 (reading.over-all reading.used registry ∷ reading.over-all reading.free registry ∷ reading.over-all reading.left registry ∷ [])
+    root-totals q =
+        let live : is-budget registry i ≡ true = rw q (eq-eqb _ 6 (area-sound a s .registry .root)) in
+        let S = area-sound a s .registry in
+        totals-told live ∙ rw (q, root-total registry S reading.used, root-total registry S reading.free, root-total registry S reading.left)
+
 -- P12, demand 2: on no sound area does the Rust's removal come to `InvalidMethod`, which would be told as 15, nor does carv-os' own
 pub rust-returns : (a : List ℕ) → sound-area a ≡ true → (i time : ℕ)
     → (objects-rust.remove i time (decode a .registry) .result ≡ objects-rust.err objects-rust.invalid-method → ⊥)
@@ -243,19 +290,32 @@ image-answered m r m′ f = let u = demand1 .image m r m′ f in (u .number, u .
 pub question-1 : (a : List ℕ) (r : Bool) → r ≡ sound-area a → (e : Made) → Ensures a e → (r ≡ false → e .returned ≡ 1) × (r ≡ true → lent e ≡ true → e .returned ≡ 1 → ⊥)
 question-1 a r q e h = let u = demand1 .is-sound a r q in (λ no. u .no no e h, λ yes. u .yes yes e h)
 
--- Demand 2, from an accepted opening: the opened board is the Rust's, and so is the answer to each call in a list without an added refusal; here to the first.
+-- Demand 2, from an accepted opening: the opened board is the Rust's, and so is, in a list without an added refusal, the answer to each call that the Rust has and the board
+-- that each leaves; here of the first.
 module _ (cpu memory : ℕ) (a₀ a out out′ : List ℕ) (o : Opens cpu memory a₀ out 0 a out′) where
   pub opened-as-rust : decode a ≡ rust.new cpu memory
   opened-as-rust = demand2 cpu memory a₀ a out out′ o [] tt tt .opened .same
 
   pub first-as-rust : (e : Made) (es : List Made) → Ran (e ∷ es) a → NoneAdded (e ∷ es)
-      → (e .returned ≡ rust-run (e .call) (rust.new cpu memory) .number) × (decode (e .left) ≡ rust-run (e .call) (rust.new cpu memory) .after)
-  first-as-rust e es h n = let g = demand2 cpu memory a₀ a out out′ o (e ∷ es) h n .answers .0 in (g .number, g .area .same)
+      → (in-rust (e .call) ≡ true → GivenAs e (rust-run (e .call) (rust.new cpu memory))) × (decode (e .left) ≡ rust-run (e .call) (rust.new cpu memory) .after)
+  first-as-rust e es h n =
+      let g = demand2 cpu memory a₀ a out out′ o (e ∷ es) h n .answers .0 in (
+        λ i. subst (GivenAs e) (sym (ap (λ (t : Bool). cond t (g .reply) (without-answer (g .reply))) i) ∙ g .same) (g .given),
+        g .given .area .same ∙ sym (compared-after (e .call) (g .reply)) ∙ ap (λ (x : BoardReply). x .after) (g .same),
+      )
 
   -- .. and the Rust doesn't panic on the way
   pub rust-panics-not : (es : List Made) → Ran es a → NoneAdded es → memory < 18_446_744_073_709_551_616 → AllWords es
       → AllPass (panics.new 1 cpu memory) × NoPanics (map (λ (e : Made). e .call) es) 2 (rust.new cpu memory)
   rust-panics-not es h n = demand2 cpu memory a₀ a out out′ o es h n .no-panics
+
+  -- P1 and demand 3: an accepted `carv_totals` answers the totals of the book's figures
+  pub totals-by-book : (front rest : List Made) (e : Made) (i : ℕ) → Ran (front ++ (e ∷ rest)) a → AllWords (front ++ (e ∷ rest)) → e .call ≡ on-objects (objects.read-totals i)
+      → e .returned ≡ 0 → e .words′ ≡ sets (e .words) 0 (summed objects.memory-used (booked front cpu memory .objects) i ∷ summed objects.free (booked front cpu memory .objects) i
+      ∷ summed objects.cpu-left (booked front cpu memory .objects) i ∷ [])
+  totals-by-book front rest e i h f c r =
+      let g = demand3 cpu memory a₀ a out out′ o (front ++ (e ∷ rest)) h f .totals front rest e i refl c r in
+      g .written ∙ totals-written (g .answer) (totals-of (booked front cpu memory .objects) i) (e .words) (g .value)
 
   -- Demand 3: "two lists leave a budget equal lines exactly when these agree"
   pub equal-lines : (es : List Made) → Ran es a → AllWords es → (es′ : List Made) (b₀ b w w′ : List ℕ) (cpu′ memory′ : ℕ) → Opens cpu′ memory′ b₀ w 0 b w′

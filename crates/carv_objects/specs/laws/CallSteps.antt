@@ -177,7 +177,7 @@ module _ (r : Registry) (s : Sound r) (x i : ℕ) (h : Here no-row (r .rows) x i
         ∙ ap (λ (c : Entry). budget (c .payer) f (drop x r)) (sym object-read)
 
 -- the limit of an account is a word of the area
-limit-fits : (a : List ℕ) → WellFormed a → ((k : ℕ) → getD a k 0 < 256) → (j : ℕ) → j < length (decode a .rows)
+pub limit-fits : (a : List ℕ) → WellFormed a → ((k : ℕ) → getD a k 0 < 256) → (j : ℕ) → j < length (decode a .rows)
     → getD (decode a .rows) j no-row .it .account .«memory_limit» < 2 ^ 64
 unfolding table
 limit-fits a k b j h =

@@ -11,10 +11,10 @@ use Rattle.carv_budget.specs.Account.{due, renew}
 use Rattle.carv_budget.specs.laws.Account.{first, second}
 use Rattle.carv_objects_spec.specs.Registry.{Registry, RegistryReply, opening}
 use Rattle.carv_objects_spec.specs.Rust as rust
-use Rattle.carv_objects_spec.specs.Book.{Call, create, insert, create-budget, charge-more, uncharge, remove, refill, charge-cpu, pays-for-anything, read-account, charge-of}
+use Rattle.carv_objects_spec.specs.Book.{Call, create, insert, create-budget, charge-more, uncharge, remove, refill, charge-cpu, pays-for-anything, read-account, charge-of, read-totals}
 use Rattle.carv_objects_spec.specs.Refused.{added}
 use Rattle.carv_objects_spec.specs.Runs.{run, Numbered, numbers}
-use Rattle.carv_objects_spec.specs.Demand2.{is-added, replies, rust-replies, NoneAdded}
+use Rattle.carv_objects_spec.specs.Demand2.{in-rust, is-added, compared, compared-replies, rust-replies, NoneAdded}
 use Rattle.carv_objects_spec.specs.laws.Demand2.{demand2}
 
 -- Which numbers are added.
@@ -65,6 +65,9 @@ read-account-added i = refl
 pub charge-of-added : (i : ℕ) → those (is-added (charge-of i)) ≡ marked
 charge-of-added i = refl
 
+pub read-totals-added : (i : ℕ) → those (is-added (read-totals i)) ≡ marked
+read-totals-added i = refl
+
 -- and no number above 14
 above-14 : (n : ℕ) → 14 < n → added n ≡ false
 above-14 n h = rw (le-leb 1 n (omega arith), lt-leb n 6 (omega arith), ne-eqb n 11 (λ q. omega arith))
@@ -81,6 +84,7 @@ no-more-added (charge-cpu i ns time) n h = above-14 n h
 no-more-added (pays-for-anything i) n h = above-14 n h
 no-more-added (read-account i) n h = above-14 n h
 no-more-added (charge-of i) n h = above-14 n h
+no-more-added (read-totals i) n h = above-14 n h
 
 -- Lists of calls that meet none.
 
@@ -106,7 +110,7 @@ numbers-in (x ∷ xs) = x .number ∷ numbers-in xs
 pub record Meets (cpu memory : ℕ) (ns : List Numbered) : Type 0 where
   pub numbered : numbers (calls-of ns) (opening cpu memory) ≡ ns
   pub none : NoneAdded (calls-of ns) (opening cpu memory)
-  pub as-rust : replies (calls-of ns) (opening cpu memory) ≡ rust-replies (calls-of ns) (rust.new cpu memory)
+  pub as-rust : compared-replies (calls-of ns) (opening cpu memory) ≡ rust-replies (calls-of ns) (rust.new cpu memory)
   pub rust-numbered : numbers-in (rust-replies (calls-of ns) (rust.new cpu memory)) ≡ told ns
 
 -- 01's marked cases but the uncharge of 4,097, which 11 refuses
@@ -151,35 +155,60 @@ clear-none (c ∷ cs) r h =
     let a = is-added c (run c r .number) in
     (not-true a (first (not a) _ h), clear-none cs (run c r .after) (second (not a) _ h))
 
-replied : (cs : List Call) (r : Registry) → numbers-in (replies cs r) ≡ told (numbers cs r)
-replied [] r = refl
-replied (c ∷ cs) r = ap (λ (l : List ℕ). run c r .number ∷ l) (replied cs (run c r .after))
+-- has the Rust a method for each?
+abbrev all-in-rust : List Call → Bool
+all-in-rust [] = true
+all-in-rust (c ∷ cs) = in-rust c && all-in-rust cs
 
-meets : (memory : ℕ) (ns : List Numbered) → numbers (calls-of ns) (opening 10_000_000 memory) ≡ ns → clear ns ≡ true → Meets 10_000_000 memory ns
-meets memory ns a h =
+replied : (cs : List Call) (r : Registry) → all-in-rust cs ≡ true → numbers-in (compared-replies cs r) ≡ told (numbers cs r)
+replied [] r h = refl
+replied (c ∷ cs) r h = rw (first (in-rust c) _ h) (ap (λ (l : List ℕ). run c r .number ∷ l) (replied cs (run c r .after) (second (in-rust c) _ h)))
+
+meets : (memory : ℕ) (ns : List Numbered) → numbers (calls-of ns) (opening 10_000_000 memory) ≡ ns → clear ns ≡ true → all-in-rust (calls-of ns) ≡ true → Meets 10_000_000 memory ns
+meets memory ns a h all =
     let n = clear-none (calls-of ns) (opening 10_000_000 memory) (ap clear a ∙ h) in
     let same = demand2 10_000_000 memory (omega arith) (calls-of ns) n in
-    record { numbered = a; none = n; as-rust = same; rust-numbered = sym (ap numbers-in same) ∙ replied (calls-of ns) (opening 10_000_000 memory) ∙ ap told a }
+    record { numbered = a; none = n; as-rust = same; rust-numbered = sym (ap numbers-in same) ∙ replied (calls-of ns) (opening 10_000_000 memory) all ∙ ap told a }
 
 pub frames-meet : Meets 10_000_000 1_000_000 frames
 unfolding due renew
-frames-meet = meets 1_000_000 frames refl refl
+frames-meet = meets 1_000_000 frames refl refl refl
 
 pub renewals-meet : Meets 10_000_000 1_000_000 renewals
 unfolding due renew
-renewals-meet = meets 1_000_000 renewals refl refl
+renewals-meet = meets 1_000_000 renewals refl refl refl
 
 pub carve-127-meets : Meets 10_000_000 127 (carve 0)
 unfolding due renew
-carve-127-meets = meets 127 (carve 0) refl refl
+carve-127-meets = meets 127 (carve 0) refl refl refl
 
 pub carve-128-meets : Meets 10_000_000 128 (carve 1)
 unfolding due renew
-carve-128-meets = meets 128 (carve 1) refl refl
+carve-128-meets = meets 128 (carve 1) refl refl refl
 
 pub every-meets : Meets 10_000_000 1_000_000 every
 unfolding due renew
-every-meets = meets 1_000_000 every refl refl
+every-meets = meets 1_000_000 every refl refl refl
+
+-- Lists with calls that the Rust lacks, accepted and refused: demand 2 goes on through them. Budget 2 is carved and charged, and the Rust's registry stays for each reading.
+abbrev pub readings : List Numbered
+readings =
+    create-budget 1 1_000 64 0 answers 0 ∷ read-totals 2 answers 0 ∷ read-totals 9 answers 7 ∷ charge-more 2 1 answers 0 ∷ read-totals 1 answers 0
+    ∷ remove 2 0 answers 0 ∷ read-totals 2 answers 7 ∷ remove 2 0 answers 7 ∷ []
+
+pub record ReadingsMeet : Type 0 where
+  pub numbered : numbers (calls-of readings) (opening 10_000_000 1_000_000) ≡ readings
+  pub none : NoneAdded (calls-of readings) (opening 10_000_000 1_000_000)
+  pub as-rust : compared-replies (calls-of readings) (opening 10_000_000 1_000_000) ≡ rust-replies (calls-of readings) (rust.new 10_000_000 1_000_000)
+  pub rust-numbered : numbers-in (rust-replies (calls-of readings) (rust.new 10_000_000 1_000_000)) ≡ 0 ∷ 0 ∷ 0 ∷ 0 ∷ 0 ∷ 0 ∷ 0 ∷ 7 ∷ []
+
+pub readings-meet : ReadingsMeet
+unfolding due renew
+readings-meet =
+    let a : numbers (calls-of readings) (opening 10_000_000 1_000_000) ≡ readings = refl in
+    let n = clear-none (calls-of readings) (opening 10_000_000 1_000_000) (ap clear a) in
+    let same = demand2 10_000_000 1_000_000 (omega arith) (calls-of readings) n in
+    record { numbered = a; none = n; as-rust = same; rust-numbered = sym (ap numbers-in same) }
 
 -- `every` meets each call, and of each call these numbers: 0 and those of 01's questions before it that are not marked +, but 15, which P12 drops.
 
@@ -196,6 +225,7 @@ which (charge-cpu i ns time) = 7
 which (pays-for-anything i) = 8
 which (read-account i) = 9
 which (charge-of i) = 10
+which (read-totals i) = 11
 
 abbrev pub rust-numbers : Call → List ℕ
 rust-numbers (create kind payer backing) = 0 ∷ 7 ∷ 12 ∷ 13 ∷ 14 ∷ []
@@ -209,6 +239,7 @@ rust-numbers (charge-cpu i ns time) = 0 ∷ 7 ∷ 12 ∷ []
 rust-numbers (pays-for-anything i) = 0 ∷ []
 rust-numbers (read-account i) = 0 ∷ 7 ∷ []
 rust-numbers (charge-of i) = 0 ∷ 7 ∷ []
+rust-numbers (read-totals i) = []
 
 -- does a list have call c with number n?
 abbrev pub has-answer : Call → List Numbered → ℕ → Bool
@@ -227,3 +258,19 @@ every-call-met (charge-cpu i ns time) = refl
 every-call-met (pays-for-anything i) = refl
 every-call-met (read-account i) = refl
 every-call-met (charge-of i) = refl
+every-call-met (read-totals i) = refl
+
+-- The calls that the Rust lacks, and no others: P1's totals.
+pub lacked : (c : Call) → in-rust c ≡ not (eqb (which c) 11)
+lacked (create kind payer backing) = refl
+lacked (insert kind payer bytes) = refl
+lacked (create-budget parent cpu memory time) = refl
+lacked (charge-more i bytes) = refl
+lacked (uncharge i bytes) = refl
+lacked (remove i time) = refl
+lacked (refill i time) = refl
+lacked (charge-cpu i ns time) = refl
+lacked (pays-for-anything i) = refl
+lacked (read-account i) = refl
+lacked (charge-of i) = refl
+lacked (read-totals i) = refl

@@ -10,7 +10,7 @@ use Rattle.carv_area.specs.laws.Table.{test}
 use Rattle.carv_budget.specs.Account as account
 use Rattle.carv_objects_spec.specs.Reply.{Reply, refuse}
 use Rattle.carv_objects_spec.specs.Registry.{Registry, RegistryReply, entry, has, is-budget, account-of, payer-of, pays-for, budget, listed, bytes-of, creatable, needs-backing, has-place, has-next}
-use Rattle.carv_objects_spec.specs.Book.{Call, create, insert, create-budget, charge-more, uncharge, remove, refill, charge-cpu, pays-for-anything, read-account, charge-of}
+use Rattle.carv_objects_spec.specs.Book.{Call, create, insert, create-budget, charge-more, uncharge, remove, refill, charge-cpu, pays-for-anything, read-account, charge-of, read-totals}
 use Rattle.carv_objects_spec.specs.Runs.{run}
 use Rattle.carv_objects_spec.specs.Demand1.{renewal-left, with-renewal}
 use Rattle.carv_budget.specs.laws.Account.{first, second}
@@ -118,6 +118,7 @@ leaves (charge-cpu i ns time) r = cpu-leaves i ns time r
 leaves (pays-for-anything i) r = kept (pays-for-anything i) r (λ n. refl) (accepted r _ refl)
 leaves (read-account i) r = kept (read-account i) r (λ n. refl) (ask 7 (is-budget r i) r refl (accepted r _ refl))
 leaves (charge-of i) r = kept (charge-of i) r (λ n. refl) (ask 7 (has r i) r refl (accepted r _ refl))
+leaves (read-totals i) r = kept (read-totals i) r (λ n. refl) (ask 7 (is-budget r i) r refl (accepted r _ refl))
 
 -- question 1 leaves no renewal
 pub one-renews-not : (c : Call) (r : Registry) → renewal-left c 1 r ≡ none
@@ -132,3 +133,4 @@ one-renews-not (charge-cpu i ns time) r = refl
 one-renews-not (pays-for-anything i) r = refl
 one-renews-not (read-account i) r = refl
 one-renews-not (charge-of i) r = refl
+one-renews-not (read-totals i) r = refl

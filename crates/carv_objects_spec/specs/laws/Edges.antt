@@ -9,7 +9,7 @@ use Rattle.carv_area.specs.Table.{Row}
 use Rattle.carv_budget.specs.declared.Account.{Account}
 use Rattle.carv_budget.specs.Account.{blank, due, renew}
 use Rattle.carv_objects_spec.specs.declared.Entry.{Entry}
-use Rattle.carv_objects_spec.specs.Reply.{Value, id, renewed, pays, of-account, charge}
+use Rattle.carv_objects_spec.specs.Reply.{Value, id, renewed, pays, of-account, charge, of-totals}
 use Rattle.carv_objects_spec.specs.Registry.{Registry, RegistryReply, entry, has, account-of, opening, create, create-budget, uncharge, remove, refill, charge-cpu}
 use Rattle.carv_objects_spec.specs.Sound.{all}
 
@@ -27,6 +27,7 @@ is-id i (some (renewed b)) = false
 is-id i (some (pays b)) = false
 is-id i (some (of-account a)) = false
 is-id i (some (charge p n)) = false
+is-id i (some (of-totals t)) = false
 
 abbrev is-renewal : Option Value → Bool
 is-renewal none = false
@@ -35,6 +36,7 @@ is-renewal (some (renewed b)) = b
 is-renewal (some (pays b)) = false
 is-renewal (some (of-account a)) = false
 is-renewal (some (charge p n)) = false
+is-renewal (some (of-totals t)) = false
 
 -- accepted, with this id
 abbrev gives : ℕ → RegistryReply → Bool

@@ -24,7 +24,7 @@ use Rattle.carv_objects_spec.specs.laws.Kept as calls
 use Rattle.carv_objects_spec.specs.laws.Kept.{LimitsWithin, live-budget, limits-within, charge-within, carve, release}
 use Rattle.carv_objects_spec.specs.Runs.{run, after, numbers, write-all, book-after, line}
 use Rattle.carv_objects_spec.specs.Book as book
-use Rattle.carv_objects_spec.specs.Book.{Book, Object, Budget, Differences, figures, object-of, budget-of, is-live, Call, create, insert, create-budget, charge-more, uncharge, remove, refill, charge-cpu, pays-for-anything, read-account, charge-of, write}
+use Rattle.carv_objects_spec.specs.Book.{Book, Object, Budget, Differences, figures, object-of, budget-of, is-live, Call, create, insert, create-budget, charge-more, uncharge, remove, refill, charge-cpu, pays-for-anything, read-account, charge-of, read-totals, write}
 
 -- Registry and book.
 
@@ -450,6 +450,7 @@ write-follows (charge-cpu i ns t) r k s F = charge-cpu-follows r k s F i ns t
 write-follows (pays-for-anything i) r k s F = F
 write-follows (read-account i) r k s F = asked (Written (read-account i) k) (is-budget r i) F (λ h. F)
 write-follows (charge-of i) r k s F = asked (Written (charge-of i) k) (has r i) F (λ h. F)
+write-follows (read-totals i) r k s F = asked (Written (read-totals i) k) (is-budget r i) F (λ h. F)
 
 pub kept : (c : Call) (r : Registry) → Sound r → Sound (run c r .after)
 kept (create kind payer backing) r s = calls.create-kept kind payer backing r s
@@ -463,6 +464,7 @@ kept (charge-cpu i ns t) r s = calls.charge-cpu-kept i ns t r s
 kept (pays-for-anything i) r s = s
 kept (read-account i) r s = asked (λ a. Sound (a .after)) (is-budget r i) s (λ h. s)
 kept (charge-of i) r s = asked (λ a. Sound (a .after)) (has r i) s (λ h. s)
+kept (read-totals i) r s = asked (λ a. Sound (a .after)) (is-budget r i) s (λ h. s)
 
 -- Lists of calls.
 

@@ -16,6 +16,7 @@ use Rattle.carv_objects_spec.specs.Book as book
 use Rattle.carv_objects_spec.specs.Demand1.{renewal-left}
 use Rattle.carv_objects_spec.specs.Reply.{id, pays, charge}
 use Rattle.carv_objects_spec.specs.Registry.{Registry, RegistryReply, account-of, budget-kind, listed, bytes-of, has-place, has-next, plain, opening, create, insert, create-budget, charge-more, uncharge, remove, refill, charge-cpu, pays-for-anything, read-account, charge-of}
+use Rattle.carv_objects_spec.specs.Totals.{read-totals}
 use Rattle.carv_objects_spec.specs.Sound.{sound}
 use Rattle.carv_objects_spec.specs.laws.SoundLaws.{sound-told}
 
@@ -94,11 +95,11 @@ pub record Limits : Type 0 where
   pub no-next : (r : Registry) → 18_446_744_073_709_551_615 ≤ r .next → has-next r ≡ false
   -- "7. Do the object, payer .. exist, and is the payer, or the account to be read, renewed or charged CPU, a budget?" Of id 9, and of a Frame, id 2
   pub missing : numbers (create 5 9 true root ∷ insert 5 9 0 root ∷ create-budget 9 0 0 0 root ∷ charge-more 9 0 root ∷ uncharge 9 0 root ∷ remove 9 0 root
-      ∷ refill 9 0 root ∷ charge-cpu 9 0 0 root ∷ read-account 9 root ∷ charge-of 9 root ∷ [])
-      ≡ 7 ∷ 7 ∷ 7 ∷ 7 ∷ 7 ∷ 7 ∷ 7 ∷ 7 ∷ 7 ∷ 7 ∷ []
+      ∷ refill 9 0 root ∷ charge-cpu 9 0 0 root ∷ read-account 9 root ∷ charge-of 9 root ∷ read-totals 9 root ∷ [])
+      ≡ 7 ∷ 7 ∷ 7 ∷ 7 ∷ 7 ∷ 7 ∷ 7 ∷ 7 ∷ 7 ∷ 7 ∷ 7 ∷ []
   pub no-budget : numbers (create 5 2 true framed ∷ insert 5 2 0 framed ∷ create-budget 2 0 0 0 framed ∷ charge-more 2 0 framed ∷ uncharge 2 0 framed ∷ remove 2 0 framed
-      ∷ refill 2 0 framed ∷ charge-cpu 2 0 0 framed ∷ read-account 2 framed ∷ charge-of 2 framed ∷ [])
-      ≡ 7 ∷ 7 ∷ 7 ∷ 0 ∷ 0 ∷ 0 ∷ 7 ∷ 7 ∷ 7 ∷ 0 ∷ []
+      ∷ refill 2 0 framed ∷ charge-cpu 2 0 0 framed ∷ read-account 2 framed ∷ charge-of 2 framed ∷ read-totals 2 framed ∷ [])
+      ≡ 7 ∷ 7 ∷ 7 ∷ 0 ∷ 0 ∷ 0 ∷ 7 ∷ 7 ∷ 7 ∷ 0 ∷ 7 ∷ []
   -- "For a missing id `pays_for_anything` .. say no"; the root pays for the Frame, but not for itself
   pub pays-for-it : (pays-for-anything 9 framed .value ≡ some (pays false)) × (pays-for-anything 1 framed .value ≡ some (pays true))
       × (pays-for-anything 1 root .value ≡ some (pays false)) × (pays-for-anything 2 framed .value ≡ some (pays false))

@@ -14,7 +14,7 @@ use Rattle.carv_objects_spec.specs.Registry.{Registry}
 use Rattle.carv_objects_spec.specs.Rust as rust
 use Rattle.carv_objects_spec.specs.Panics as panics
 use Rattle.carv_objects_spec.specs.Panics.{checks, ids-after, NoPanics}
-use Rattle.carv_objects_spec.specs.Book.{create, insert, create-budget, charge-more, uncharge, remove, refill, charge-cpu, pays-for-anything, read-account, charge-of}
+use Rattle.carv_objects_spec.specs.Book.{create, insert, create-budget, charge-more, uncharge, remove, refill, charge-cpu, pays-for-anything, read-account, charge-of, read-totals}
 use Rattle.carv_objects_spec.specs.laws.Edges.{budget, registry, carved}
 
 -- the next id is 2^64 − 1
@@ -58,6 +58,7 @@ pub record PanicCases : Type 0 where
       × (checks (charge-cpu 3 4_000_001 0) 3 carved ≡ difference 0 0 ∷ []) × (checks (charge-cpu 2 1_000_000 0) 3 carved ≡ [])
   -- the readings
   pub readings : (checks (pays-for-anything 1) 3 carved ≡ []) × (checks (read-account 1) 3 carved ≡ []) × (checks (charge-of 1) 3 carved ≡ [])
+      × (checks (read-totals 1) 3 carved ≡ [])
   -- the opening
   pub new-is : (panics.new 1 10_000_000 1_000_000 ≡ expect true ∷ expect true ∷ []) × (panics.new 1 10_000_001 1_000_000 ≡ expect false ∷ [])
   -- a budget made takes one of the counter; one refused, an object made, and a call on the next id do not
@@ -78,7 +79,7 @@ panic-cases-hold = record {
   remove-is = (refl, refl, refl, refl, refl, refl);
   refill-is = (refl, refl, refl);
   charge-cpu-is = (refl, refl, refl);
-  readings = (refl, refl, refl);
+  readings = (refl, refl, refl, refl);
   new-is = (refl, refl);
   counter = (refl, refl, refl, refl);
   lists = (

@@ -39,8 +39,8 @@ use Rattle.carv_objects_spec.specs.laws.Kept as calls
 use Rattle.carv_objects_spec.specs.laws.Kept.{limits-within, charge-within}
 use Rattle.carv_objects_spec.specs.laws.Refines as refines
 use Rattle.carv_objects_spec.specs.laws.History.{kept}
-use Rattle.carv_objects_spec.specs.laws.Demand2.{run-rust}
-use Rattle.carv_objects_spec.specs.Book.{Call, create, insert, create-budget, charge-more, uncharge, remove, refill, charge-cpu, pays-for-anything, read-account, charge-of}
+use Rattle.carv_objects_spec.specs.laws.Demand2.{after-rust}
+use Rattle.carv_objects_spec.specs.Book.{Call, create, insert, create-budget, charge-more, uncharge, remove, refill, charge-cpu, pays-for-anything, read-account, charge-of, read-totals}
 use Rattle.carv_objects_spec.specs.Runs.{run}
 use Rattle.carv_objects_spec.specs.Demand2.{is-added, NoneAdded}
 
@@ -265,6 +265,7 @@ call-passes (charge-cpu i ns time) ids r s f h = charge-cpu-passes r s (f .limit
 call-passes (pays-for-anything i) ids r s f h = tt
 call-passes (read-account i) ids r s f h = tt
 call-passes (charge-of i) ids r s f h = tt
+call-passes (read-totals i) ids r s f h = tt
 
 -- Each call leaves the root's limit as it was, and the next id no lower.
 
@@ -341,6 +342,7 @@ onward (charge-cpu i ns time) r s =
 onward (pays-for-anything i) r s = stays r
 onward (read-account i) r s = asked (λ a. Onward r (a .after)) (r01.is-budget r i) (stays r) (λ _. stays r)
 onward (charge-of i) r s = asked (λ a. Onward r (a .after)) (r01.has r i) (stays r) (λ _. stays r)
+onward (read-totals i) r s = asked (λ a. Onward r (a .after)) (r01.is-budget r i) (stays r) (λ _. stays r)
 
 -- a budget under the id that was next: the next id has risen
 risen : (r t : Registry) → Sound t → is-some (rust.budget-mut (r .next) t) ≡ true → r .next < t .next
@@ -361,7 +363,7 @@ pub no-panics : (cs : List Call) (ids : ℕ) (r : Registry) → Sound r → Fits
 no-panics [] ids r s f n = tt
 no-panics (c ∷ cs) ids r s f n = (
   call-passes c ids r s f (n .0),
-  subst (λ (x : RegistryReply). NoPanics cs (cond (is-some (rust.budget-mut (r .next) (x .after))) (suc ids) ids) (x .after)) (run-rust c r s (n .0))
+  subst (λ (x : Registry). NoPanics cs (cond (is-some (rust.budget-mut (r .next) x)) (suc ids) ids) x) (after-rust c r s (n .0))
       (no-panics cs _ (run c r .after) (kept c r s) (fits-onward ids r (run c r .after) (kept c r s) f (onward c r s)) (n .1)),
 )
 

@@ -7,8 +7,9 @@ use lib.Dec.{leb}
 use borrow.Author.Tests.{eq-eqb, ne-eqb}
 use Rattle.carv_budget.specs.Account as account
 use Rattle.carv_budget.specs.laws.Account.{first, second}
-use Rattle.carv_objects_spec.specs.Reply.{refuse, accept, id, renewed, pays, of-account, charge}
+use Rattle.carv_objects_spec.specs.Reply.{refuse, accept, id, renewed, pays, of-account, charge, of-totals}
 use Rattle.carv_objects_spec.specs.Registry.{Registry, RegistryReply, entry, has, is-budget, pays-for, account-of, payer-of, budget, object, drop, add, plain, carved, listed, bytes-of, creatable, needs-backing, has-place, has-next, create, insert, create-budget, charge-more, uncharge, remove, refill, charge-cpu, pays-for-anything, read-account, charge-of}
+use Rattle.carv_objects_spec.specs.Totals.{over, read-totals}
 
 -- question 6 is asked of the place and of the id
 no-room : (x y : Bool) (k z : RegistryReply) → (x && y) ≡ false → cond x (cond y k z) z ≡ z
@@ -165,3 +166,13 @@ module _ (i : ℕ) (r : Registry) where
 
   pub charge-of-done : has r i ≡ true → charge-of i r ≡ accept (some (charge (payer-of r i) (entry r i .charge))) r
   charge-of-done a = rw a
+
+  pub read-totals-missing : is-budget r i ≡ false → read-totals i r ≡ refuse 7 r
+  read-totals-missing a = rw a
+
+  pub read-totals-done : is-budget r i ≡ true → read-totals i r ≡ accept (some (of-totals (record {
+    «memory_used» = over (λ a. a .«memory_used») r i;
+    «memory_free» = over (λ a. a .«memory_limit» - a .«memory_reserved» - a .«memory_used») r i;
+    «cpu_left» = over (λ a. a .«cpu_left») r i;
+  }))) r
+  read-totals-done a = rw a

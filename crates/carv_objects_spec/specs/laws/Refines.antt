@@ -18,8 +18,9 @@ use Rattle.carv_budget.specs.Rust as budget
 use Rattle.carv_budget.specs.laws.Account.{renewal, renew-not-due, returnable-renewed}
 use Rattle.carv_budget.specs.laws.Refines.{refill-renews, charge-memory-by, release-memory-by, charge-cpu-by, carve-out-by, release-child-by, renew-charged}
 use Rattle.carv_objects_spec.specs.declared.Entry.{Entry}
-use Rattle.carv_objects_spec.specs.Reply.{refuse, accept, Value, id, pays, of-account, charge}
+use Rattle.carv_objects_spec.specs.Reply.{refuse, accept, without-answer, Value, id, pays, of-account, charge}
 use Rattle.carv_objects_spec.specs.Registry as r01
+use Rattle.carv_objects_spec.specs.Totals.{read-totals}
 use Rattle.carv_objects_spec.specs.Registry.{Registry, RegistryReply, or-missing, entry, is-budget, account-of, payer-of, on-account, object, drop, add, plain, carved, bytes-of, listed, needs-backing, has-place, has-next}
 use Rattle.carv_objects_spec.specs.Rust as rust
 use Rattle.carv_objects_spec.specs.Replies.{reply-of, an-id, nothing, a-renewal, cpu-reply-of, reading-of}
@@ -455,6 +456,10 @@ read-account-rust i r = rw (budget-mut-is i r) (test (is-budget r i) (λ l. rw l
 
 pub charge-of-rust : (i : ℕ) (r : Registry) → r01.charge-of i r ≡ reading-of (λ c. charge (c .0) (c .1)) (rust.charge-of i r) r
 charge-of-rust i r = look (at (r .rows) i) (λ q. rw q) (λ q. rw q)
+
+-- P1's reading, which the Rust lacks, leaves the registry as it was, accepted or refused
+pub read-totals-rust : (i : ℕ) (r : Registry) → without-answer (read-totals i r) ≡ accept none r
+read-totals-rust i r = test (is-budget r i) (λ l. rw l) (λ l. rw l)
 
 pub opening-rust : (cpu memory : ℕ) → cpu ≤ account.period → r01.opening cpu memory ≡ rust.new cpu memory
 opening-rust cpu memory h = rw (le-ltb account.period cpu h)

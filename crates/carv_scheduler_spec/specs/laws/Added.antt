@@ -1,7 +1,7 @@
 -- Demand 2's "no added refusal", pinned: call by call which refusal numbers count as added, and lists of calls that meet none, so that demand 2 speaks of every call
 -- of the board and of each number that is the Rust's. Assumes nothing.
 use mathlib.Core.Path.{_≡_, refl, sym, ap, _∙_}
-use mathlib.Core.Bool.{Bool, true, false, not, _&&_, _||_}
+use mathlib.Core.Bool.{Bool, true, false, not, _&&_, _||_, true≢false}
 use mathlib.Core.List.{List, [], _∷_, _++_}
 use Prim.Native.Nat.{ℕ, _<_}
 use native.Mathlib.Omega.{arith}
@@ -21,7 +21,7 @@ use Rattle.carv_scheduler_spec.specs.Scheduler.{Board, BoardReply, openi
 use Rattle.carv_scheduler_spec.specs.Rust as rust
 use Rattle.carv_scheduler_spec.specs.Book.{Call, on-objects, create-user-thread, start, block-current, wake, is-blocked-on, kill, tick, plan, read-thread, read-current, read-switches, exit-of}
 use Rattle.carv_scheduler_spec.specs.Runs.{run, Numbered, numbers, AllFit}
-use Rattle.carv_scheduler_spec.specs.Demand2.{is-added, replies, rust-replies, NoneAdded}
+use Rattle.carv_scheduler_spec.specs.Demand2.{in-rust, is-added, compared-replies, rust-replies, NoneAdded}
 use Rattle.carv_scheduler_spec.specs.laws.Demand2.{demand2}
 
 -- Which numbers are added: `marked` are 1 to 6 and 11.
@@ -110,7 +110,7 @@ numbers-in (x ∷ xs) = x .number ∷ numbers-in xs
 pub record Meets (cpu memory : ℕ) (ns : List Numbered) : Type 0 where
   pub numbered : numbers (calls-of ns) (opening cpu memory) ≡ ns
   pub none : NoneAdded (calls-of ns) (opening cpu memory)
-  pub as-rust : replies (calls-of ns) (opening cpu memory) ≡ rust-replies (calls-of ns) (rust.new cpu memory)
+  pub as-rust : compared-replies (calls-of ns) (opening cpu memory) ≡ rust-replies (calls-of ns) (rust.new cpu memory)
   pub rust-numbered : numbers-in (rust-replies (calls-of ns) (rust.new cpu memory)) ≡ told ns
 
 -- a list of registry calls, made on the board
@@ -149,15 +149,21 @@ clear-none (c ∷ cs) b h =
     let a = is-added c (run c b .number) in
     (not-true a (first (not a) _ h), clear-none cs (run c b .after) (second (not a) _ h))
 
-replied : (cs : List Call) (b : Board) → numbers-in (replies cs b) ≡ told (numbers cs b)
-replied [] b = refl
-replied (c ∷ cs) b = ap (λ (l : List ℕ). run c b .number ∷ l) (replied cs (run c b .after))
+-- has the Rust a method for each?
+abbrev all-in-rust : List Call → Bool
+all-in-rust [] = true
+all-in-rust (c ∷ cs) = in-rust c && all-in-rust cs
 
-meets : (memory : ℕ) (ns : List Numbered) → AllFit (calls-of ns) → numbers (calls-of ns) (opening 10_000_000 memory) ≡ ns → clear ns ≡ true → Meets 10_000_000 memory ns
-meets memory ns fits a h =
+replied : (cs : List Call) (b : Board) → all-in-rust cs ≡ true → numbers-in (compared-replies cs b) ≡ told (numbers cs b)
+replied [] b h = refl
+replied (c ∷ cs) b h = rw (first (in-rust c) _ h) (ap (λ (l : List ℕ). run c b .number ∷ l) (replied cs (run c b .after) (second (in-rust c) _ h)))
+
+meets : (memory : ℕ) (ns : List Numbered) → AllFit (calls-of ns) → numbers (calls-of ns) (opening 10_000_000 memory) ≡ ns → clear ns ≡ true
+    → all-in-rust (calls-of ns) ≡ true → Meets 10_000_000 memory ns
+meets memory ns fits a h all =
     let n = clear-none (calls-of ns) (opening 10_000_000 memory) (ap clear a ∙ h) in
     let same = demand2 10_000_000 memory (omega arith) (calls-of ns) fits n in
-    record { numbered = a; none = n; as-rust = same; rust-numbered = sym (ap numbers-in same) ∙ replied (calls-of ns) (opening 10_000_000 memory) ∙ ap told a }
+    record { numbered = a; none = n; as-rust = same; rust-numbered = sym (ap numbers-in same) ∙ replied (calls-of ns) (opening 10_000_000 memory) all ∙ ap told a }
 
 on-board-fits : (ns : List registry-runs.Numbered) → AllFit (calls-of (on-board ns))
 on-board-fits [] = tt
@@ -165,37 +171,37 @@ on-board-fits (n ∷ ns) = (tt, on-board-fits ns)
 
 pub frames-meet : Meets 10_000_000 1_000_000 (on-board registry-added.frames)
 unfolding due renew
-frames-meet = meets 1_000_000 (on-board registry-added.frames) (on-board-fits registry-added.frames) refl refl
+frames-meet = meets 1_000_000 (on-board registry-added.frames) (on-board-fits registry-added.frames) refl refl refl
 
 pub renewals-meet : Meets 10_000_000 1_000_000 (on-board registry-added.renewals)
 unfolding due renew
-renewals-meet = meets 1_000_000 (on-board registry-added.renewals) (on-board-fits registry-added.renewals) refl refl
+renewals-meet = meets 1_000_000 (on-board registry-added.renewals) (on-board-fits registry-added.renewals) refl refl refl
 
 pub carve-127-meets : Meets 10_000_000 127 (on-board (registry-added.carve 0))
 unfolding due renew
-carve-127-meets = meets 127 (on-board (registry-added.carve 0)) (on-board-fits (registry-added.carve 0)) refl refl
+carve-127-meets = meets 127 (on-board (registry-added.carve 0)) (on-board-fits (registry-added.carve 0)) refl refl refl
 
 pub carve-128-meets : Meets 10_000_000 128 (on-board (registry-added.carve 1))
 unfolding due renew
-carve-128-meets = meets 128 (on-board (registry-added.carve 1)) (on-board-fits (registry-added.carve 1)) refl refl
+carve-128-meets = meets 128 (on-board (registry-added.carve 1)) (on-board-fits (registry-added.carve 1)) refl refl refl
 
 pub every-object-meets : Meets 10_000_000 1_000_000 (on-board registry-added.every)
 unfolding due renew
-every-object-meets = meets 1_000_000 (on-board registry-added.every) (on-board-fits registry-added.every) refl refl
+every-object-meets = meets 1_000_000 (on-board registry-added.every) (on-board-fits registry-added.every) refl refl refl
 
 pub alone-meets : Meets 10_000_000 1_000_000 alone
-alone-meets = meets 1_000_000 alone (tt, (tt, (tt, (tt, (tt, (tt, tt)))))) refl refl
+alone-meets = meets 1_000_000 alone (tt, (tt, (tt, (tt, (tt, (tt, tt)))))) refl refl refl
 
 pub short-meets : Meets 10_000_000 1_000_000 short
 unfolding due renew
-short-meets = meets 1_000_000 short (omega arith, (tt, (tt, (tt, (tt, (tt, tt)))))) refl refl
+short-meets = meets 1_000_000 short (omega arith, (tt, (tt, (tt, (tt, (tt, tt)))))) refl refl refl
 
 pub every-meets : Meets 10_000_000 1_000_000 every
 unfolding due renew
 every-meets =
     meets 1_000_000 every
     (omega arith, (omega arith, (omega arith, (tt, (tt, (tt, (tt, (tt, (tt, (tt, (tt, (tt, (tt, (tt, (tt, (tt, (tt, (tt, (tt, (tt, tt))))))))))))))))))))
-    refl refl
+    refl refl refl
 
 -- `every` and the registry's list meet each call, and of each call these numbers: 0 and those of 01's questions before it that are not marked +, but 15.
 
@@ -252,3 +258,37 @@ every-call-met (read-thread i) = refl
 every-call-met read-current = refl
 every-call-met read-switches = refl
 every-call-met (exit-of i) = refl
+
+-- The calls that the Rust lacks are of the registry, whose file of this name pins them; and demand 2 goes on through them.
+pub registry-lacked : (c : objects.Call) → in-rust (on-objects c) ≡ registry-demand2.in-rust c
+registry-lacked c = refl
+
+pub own-in-rust : (c : Call) → eqb (which c) 0 ≡ false → in-rust c ≡ true
+own-in-rust (on-objects c) h = absurd (true≢false h)
+own-in-rust (create-user-thread i budget stack) h = refl
+own-in-rust (start i space cspace root context) h = refl
+own-in-rust (block-current kind number) h = refl
+own-in-rust (wake i r) h = refl
+own-in-rust (is-blocked-on i kind number) h = refl
+own-in-rust (kill i cause) h = refl
+own-in-rust (tick n) h = refl
+own-in-rust (plan n) h = refl
+own-in-rust (read-thread i) h = refl
+own-in-rust read-current h = refl
+own-in-rust read-switches h = refl
+own-in-rust (exit-of i) h = refl
+
+pub record ReadingsMeet : Type 0 where
+  pub numbered : numbers (calls-of (on-board registry-added.readings)) (opening 10_000_000 1_000_000) ≡ on-board registry-added.readings
+  pub as-rust : compared-replies (calls-of (on-board registry-added.readings)) (opening 10_000_000 1_000_000)
+      ≡ rust-replies (calls-of (on-board registry-added.readings)) (rust.new 10_000_000 1_000_000)
+
+pub readings-meet : ReadingsMeet
+unfolding due renew
+readings-meet =
+    let cs : List Call = calls-of (on-board registry-added.readings) in
+    let a : numbers (calls-of (on-board registry-added.readings)) (opening 10_000_000 1_000_000) ≡ on-board registry-added.readings = refl in
+    record {
+      numbered = a;
+      as-rust = demand2 10_000_000 1_000_000 (omega arith) cs (on-board-fits registry-added.readings) (clear-none cs (opening 10_000_000 1_000_000) (ap clear a));
+    }

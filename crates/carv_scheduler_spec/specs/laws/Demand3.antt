@@ -17,6 +17,7 @@ use Rattle.carv_objects_spec.specs.Registry.{is-budget, account-of}
 use Rattle.carv_objects_spec.specs.Book as objects
 use Rattle.carv_objects_spec.specs.Book.{Budget, is-live, budget-of, on-budget, cpu-left}
 use Rattle.carv_objects_spec.specs.laws.History as registry-history
+use Rattle.carv_objects_spec.specs.laws.BookTotals.{totals-same}
 use Rattle.carv_scheduler_spec.specs.Scheduler as scheduler
 use Rattle.carv_scheduler_spec.specs.Scheduler.{Board, BoardReply, idle, tick-ns, thread, root-of, opening, no-switch, switch}
 use Rattle.carv_scheduler_spec.specs.Sound.{member}
@@ -231,6 +232,7 @@ demand3 cs cpu memory h fits = record {
       let e = line-is cs cpu memory h fits i live in
       let e′ = line-is cs′ cpu′ memory′ h′ fits′ i live′ in
       (λ q. sym e ∙ q ∙ e′, λ q. e ∙ q ∙ sym e′);
+  totals = λ i. let S = stands cs cpu memory h fits in totals-same (board-after cs cpu memory .registry) (book-after cs cpu memory .objects) (S .follows .objects) i (S .sound .registry);
   plannings = λ front rest n q accepted.
       let S = stands front cpu memory h (all-fit front (plan n ∷ rest) (rw q at fits)) in
       planned n (board-after front cpu memory) (book-after front cpu memory) (S .sound) (S .follows) accepted;

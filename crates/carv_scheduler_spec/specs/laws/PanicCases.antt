@@ -56,7 +56,7 @@ pub record PanicCases : Type 0 where
       × (checks (plan 2) 2 no-threads ≡ product 2 1_000_000 ∷ expect false ∷ expect false ∷ [])
   -- the registry's calls are the registry's
   pub on-objects-is : (checks (on-objects (objects.insert 5 1 100)) 2 started ≡ sum 0 100 ∷ sum 2 1 ∷ [])
-      × (checks (on-objects (objects.read-account 1)) 2 started ≡ [])
+      × (checks (on-objects (objects.read-account 1)) 2 started ≡ []) × (checks (on-objects (objects.read-totals 1)) 2 started ≡ [])
   -- the others
   pub others : (checks (create-user-thread 8 1 true) 2 started ≡ []) × (checks (start 7 20 30 40 fresh-context) 2 made ≡ []) × (checks (wake 7 (results 1 2 3)) 2 started ≡ [])
       × (checks (is-blocked-on 7 5 3) 2 started ≡ []) × (checks (kill 7 1) 2 started ≡ [])
@@ -77,7 +77,7 @@ panic-cases-hold = record {
   plan-past = refl;
   plan-idle = refl;
   plan-nobody = (refl, refl);
-  on-objects-is = (refl, refl);
+  on-objects-is = (refl, refl, refl);
   others = (refl, refl, refl, refl, refl);
   readings = (refl, refl, refl, refl);
   counter = (refl, refl, refl);

@@ -67,7 +67,7 @@ impl Boards {
 }
 
 /// Divisors by whose remainders question 1 notes the places of objects and of threads.
-const OBJECT_GUESSES: u64 = 509;
+pub const OBJECT_GUESSES: u64 = 509;
 const THREAD_GUESSES: u64 = 251;
 
 /// Between ids that lie far apart; 512 of them fit. All ids then have the same remainder, so that

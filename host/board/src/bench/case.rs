@@ -4,6 +4,7 @@ use super::boards::Boards;
 use super::clock::{Clock, ROUNDS, fastest_quarter, median, timed};
 use super::{Ids, Less, Line};
 use crate::port::Port;
+use carv_compare::board::call::Call;
 use carv_oracle::Board;
 use std::hint::black_box;
 use std::ops::Range;
@@ -76,6 +77,18 @@ impl Case {
         })
     }
 
+    /// Times a reading that the Rust lacks: a round of it and one of question 1 follow each other.
+    pub fn alone(self, mut port: Port, call: Call) -> Line {
+        let [mut on_port, mut is_sound] = <[Clock; 2]>::default();
+        let line = self.rounds(|| {
+            let mut reads = |_| accepted(black_box(&mut port).make(call));
+            let whole = on_port.round(|turns| timed(turns, &mut reads));
+            let sound = is_sound.round(|turns| timed(turns, |_| asks(&port)));
+            [whole, sound, 0.0]
+        });
+        Line { rust: None, ..line }
+    }
+
     /// Times turns of one call alone, a batch at a time, which is then undone without being timed.
     /// Both get the number of the call in its batch. Question 1 is timed before and behind a batch,
     /// since the board isn't the same throughout it, and the mean counts.
@@ -118,6 +131,7 @@ impl Case {
                 time: less(&rounds),
                 off: (highest - lowest) / 2.0,
             }),
+            question: Some(median(fast.iter().map(|round| round[1]))),
             rust: Some(median(fast.iter().map(|round| round[2]))),
             ..self.line(median(fast.iter().map(|round| round[0])))
         }
@@ -139,6 +153,7 @@ impl Case {
             name: self.name,
             port,
             less: None,
+            question: None,
             rust: None,
         }
     }

@@ -68,6 +68,7 @@ mod tests {
                 time: less,
                 off: 10.0,
             }),
+            question: None,
             rust: Some(100.0),
         }
     }

@@ -16,6 +16,8 @@ pub struct Line {
     pub port: f64,
     /// The port's time without what question 1 takes on the same area.
     pub less: Option<Less>,
+    /// What question 1 takes on the same area, as often as the calls ask it.
+    pub question: Option<f64>,
     /// The Rust's time.
     pub rust: Option<f64>,
 }
@@ -48,6 +50,11 @@ impl Line {
     /// The same without question 1.
     pub fn ratio_less(&self) -> Option<f64> {
         Some(self.less?.time / self.rust?)
+    }
+
+    /// The port's time over that of question 1.
+    pub fn over_question(&self) -> Option<f64> {
+        self.question.map(|question| self.port / question)
     }
 
     /// Between what the ratio without question 1 lies: the time is a difference of two long ones.

@@ -50,6 +50,7 @@ impl<F: Fn(usize) -> Filled> Rows<F> {
             Self::pays_for_nothing,
             Self::account,
             Self::charge_of,
+            Self::totals,
         ] {
             told(line(self));
         }
@@ -190,6 +191,12 @@ impl<F: Fn(usize) -> Filled> Rows<F> {
         let (id, _) = filled.middle();
         let case = self.case("charge_of", 1.0);
         case.turns(filled.boards, turn!(|_| charge_of(id)))
+    }
+
+    /// The root's, over all budgets.
+    fn totals(&self) -> Line {
+        let port = self.full().boards.port;
+        self.case("totals", 1.0).alone(port, totals(1))
     }
 }
 

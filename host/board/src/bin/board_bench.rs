@@ -1,6 +1,7 @@
 //! Times the port's board beside the Rust's and prints tables in Markdown.
 
 use carv_board_host::bench::glance::{Glance, is_shown};
+use carv_board_host::bench::totals::{self, Row, totals};
 use carv_board_host::bench::{HEAD, Line, about, calls, clock, question, registry, threads};
 use carv_compare::command::{program, say};
 use std::process::ExitCode;
@@ -17,10 +18,12 @@ threads   a tick with the planning behind it, on 16 and on 127 threads, each wit
           own: all budgets filled, one left that has time, all threads but one asleep, all
           asleep; ids dense and far apart. For 127 threads also tick and planning alone
 question  question 1 on a full board: ids dense, with gaps, and against the search
+totals    the root's totals beside question 1, on 511 budgets nested in one another, side by side
+          and in a random tree; the Rust has no such call
 registry  each call on the registry, on boards of OBJECTS objects, numbers from 16 to 512;
           without a number 33, 255 and 512
 
-Without a PART all four are timed, in about half a minute. For instance `board_bench calls` times
+Without a PART all five are timed, in about half a minute. For instance `board_bench calls` times
 each call once, `board_bench registry 100` the registry's calls on 100 objects.
 
 How to read it: every call of the port but open and image first asks question 1 of the whole
@@ -40,7 +43,7 @@ else: the ratios stand that better than the times.
 Exit status: 0 if all went well, 2 if called wrongly.
 ";
 
-const PARTS: [&str; 4] = ["calls", "threads", "question", "registry"];
+const PARTS: [&str; 5] = ["calls", "threads", "question", "totals", "registry"];
 const SIZES: [usize; 3] = [33, 255, 512];
 
 fn main() -> ExitCode {
@@ -76,6 +79,10 @@ fn tables(parts: &[&str], sizes: &[usize]) {
         lines.push(line);
     };
     for part in parts {
+        if *part == "totals" {
+            totals_beside_question();
+            continue;
+        }
         say(HEAD);
         match *part {
             "calls" => calls(&mut told),
@@ -88,4 +95,18 @@ fn tables(parts: &[&str], sizes: &[usize]) {
     if lines.iter().any(is_shown) {
         say(Glance(&lines));
     }
+}
+
+/// The table of totals, and how far their ratios go.
+fn totals_beside_question() {
+    say(totals::HEAD);
+    let mut most = 0.0;
+    totals(|line| {
+        say(Row(&line));
+        most = line.over_question().unwrap_or_default().max(most);
+    });
+    say(format_args!(
+        "\nThe highest ratio is {most:.2}; at most {} is asked for.\n",
+        totals::MOST
+    ));
 }

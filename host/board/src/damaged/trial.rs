@@ -7,6 +7,9 @@ use crate::snapshot;
 use carv_compare::board::call::{Call, Op};
 use carv_compare::board::reference::{Reference, UNSOUND};
 
+/// Document 01's number for an object that isn't there, or is no budget.
+const MISSING: u64 = 7;
+
 /// A board of the port, and what it was lent.
 pub struct Trial {
     port: Port,
@@ -85,13 +88,41 @@ impl Trial {
     }
 
     /// Whether the call answers a number of its own, so not 1, leaves a sound area, and leaves
-    /// answer words and image if it is refused.
+    /// answer words and image if it is refused. Totals are compared with the area's words.
     pub fn does_not_refuse(&mut self, call: Call) -> Result<(), String> {
         let found = self.call(call);
         let sound = self.port.is_sound();
         let untouched = self.port.out == self.lent.out && self.port.image == self.lent.image;
+        let totals = self.totals(call, found);
         self.reset();
-        served(call.op(), found, sound, untouched).map_err(|why| format!("{call}: {why}"))
+        served(call.op(), found, sound, untouched)
+            .and(totals)
+            .map_err(|why| format!("{call}: {why}"))
+    }
+
+    /// Totals are those that the area's words give, and refused where these have none. They leave the
+    /// area.
+    fn totals(&self, call: Call, number: u64) -> Result<(), String> {
+        let Call::Totals { id } = call else {
+            return Ok(());
+        };
+        let table = area::read(self.area()).unwrap_or_default();
+        let Some(totals) = area::totals(&table.objects).get(&id).copied() else {
+            return self.refused(number, MISSING);
+        };
+        let (found, words) = (&self.port.out, totals.words());
+        let mut expected = self.lent.out.clone();
+        expected[..words.len()].copy_from_slice(&words);
+        if number != 0 {
+            return Err(format!("the number is {number}, not 0"));
+        }
+        if *found != expected {
+            return Err(format!("the totals are {found:?}, not {expected:?}"));
+        }
+        match self.port.area == self.lent.area {
+            true => Ok(()),
+            false => Err("the area was changed".to_string()),
+        }
     }
 
     /// Whether an accepted opening leaves what the Rust's leaves.

@@ -178,6 +178,71 @@ impl Model {
         rows.any(|row| row.payer == id && (itself || row.id != id))
     }
 
+    pub(super) fn totals(&mut self, id: u64) -> Done {
+        if self.totals_are_0(id) {
+            return Ok(vec![0; 3]);
+        }
+        self.budget(id)?;
+        let counted = self.counted(id);
+        // What wraps here is a mistake's.
+        let sum =
+            |figure: fn(&Account) -> u64| counted.iter().map(figure).fold(0, u64::wrapping_add);
+        let used = sum(|account| account.memory_used);
+        let free = match planted(Mistake::TotalsForgetReservations) {
+            true => sum(|account| account.memory_limit - account.memory_used),
+            false => sum(|it| it.memory_limit - it.memory_used - it.memory_reserved),
+        };
+        let left = match planted(Mistake::TotalsAsIfRenewed) {
+            true => sum(|account| account.cpu_allowance - account.cpu_reserved),
+            false => sum(|account| account.cpu_left),
+        };
+        Ok(match planted(Mistake::TotalsInTheAccountsOrder) {
+            true => vec![left, used, free],
+            false => vec![used, free, left],
+        })
+    }
+
+    /// Whether totals of an id without a budget are answered: only where that is planted.
+    fn totals_are_0(&mut self, id: u64) -> bool {
+        match self.object(id) {
+            Ok(row) => row.kind != BUDGET && planted(Mistake::TotalsOfOtherKindsAre0),
+            Err(_) => planted(Mistake::TotalsOfMissingIdsAre0),
+        }
+    }
+
+    /// The accounts that the totals of a budget count.
+    fn counted(&self, id: u64) -> Vec<Account> {
+        let budgets = self.0.objects.iter().filter(|row| row.kind == BUDGET);
+        if planted(Mistake::TotalsOfEveryBudget) {
+            return budgets.map(|row| row.account).collect();
+        }
+        if planted(Mistake::TotalsOfEveryYoungerBudget) {
+            let younger = budgets.filter(|row| row.id >= id);
+            return younger.map(|row| row.account).collect();
+        }
+        let mut counted = Vec::new();
+        self.collect(id, 0, &mut counted);
+        counted
+    }
+
+    /// Adds the accounts of a budget, so many levels below the one that is asked for, and of all
+    /// below it.
+    fn collect(&self, id: u64, level: u64, to: &mut Vec<Account>) {
+        let left_out = |row: &ObjectRow| {
+            let odd = !row.account.period_start.is_multiple_of(PERIOD);
+            planted(Mistake::TotalsLeaveTheBudgetOut) && level == 0
+                || planted(Mistake::TotalsOfChildrenAlone) && level > 1
+                || planted(Mistake::TotalsLeaveOutWhereAStartIsNoMultiple) && odd
+        };
+        for row in self.0.objects.iter().filter(|row| row.kind == BUDGET) {
+            if row.id == id {
+                to.extend((!left_out(row)).then_some(row.account));
+            } else if row.payer == id {
+                self.collect(row.id, level + 1, to);
+            }
+        }
+    }
+
     pub(super) fn refill(&mut self, id: u64, time: u64) -> Done {
         let account = self.budget(id)?;
         Ok(vec![renew(account, time).into()])

@@ -87,10 +87,11 @@ fn constants() {
 /// Names of the header that are compared one by one in `codes` and in `refusals`; what begins with one
 /// of `WORDS` is the place of one of so many answer words.
 const CODES: [&str; 6] = ["KIND_", "BYTES_", "STATE_", "WAIT_", "CAUSE_", "REFUSED_"];
-const WORDS: [(&str, usize); 6] = [
+const WORDS: [(&str, usize); 7] = [
     ("OUT_", 1),
     ("ACCOUNT_", 7),
     ("CHARGE_", 2),
+    ("TOTALS_", 3),
     ("KILL_", 2),
     ("PLAN_", 5),
     ("THREAD_", 20),
@@ -366,6 +367,6 @@ fn declared() -> Functions {
 #[test]
 fn functions() {
     let header = in_header();
-    assert_eq!(header.len(), 26);
+    assert_eq!(header.len(), 27);
     assert_eq!(declared(), header);
 }

@@ -7,6 +7,7 @@ mod objects;
 mod refusals;
 mod removals;
 mod threads;
+mod totals;
 mod whole;
 
 use carv::{Board, Limits, PERIOD_NS, Refusal};

@@ -58,7 +58,7 @@ fn unopened() {
     const OBJECT: ObjectId = ObjectId::ROOT;
     const THREAD: ThreadId = ThreadId::FIRST;
     type Call = fn(&mut Board) -> Result<(), Refusal>;
-    let calls: [Call; 23] = [
+    let calls: [Call; 24] = [
         |board| board.create(Kind::Frame, OBJECT, Backing::There).map(drop),
         |board| board.insert(Kind::Frame, OBJECT, 0).map(drop),
         |board| board.create_budget(OBJECT, ROOT, 0).map(drop),
@@ -70,6 +70,7 @@ fn unopened() {
         |board| board.pays_for_anything(OBJECT).map(drop),
         |board| board.account(OBJECT).map(drop),
         |board| board.charge_of(OBJECT).map(drop),
+        |board| board.totals(OBJECT).map(drop),
         |board| {
             let image = board.create_user_thread(ThreadId(2), OBJECT, Backing::There);
             image.map(drop)

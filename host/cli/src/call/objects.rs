@@ -25,7 +25,7 @@ pub(super) fn backing(flag: u64) -> Backing {
     }
 }
 
-pub(super) const FORMS: [Form; 13] = [
+pub(super) const FORMS: [Form; 14] = [
     Form {
         name: "open",
         arguments: &[CPU, MEMORY],
@@ -158,5 +158,14 @@ pub(super) const FORMS: [Form; 13] = [
         refusals: &[7],
         asks_soundness: true,
         make: |board, a| board.charge_of(ObjectId(a[0])).map(Answer::Charge),
+    },
+    Form {
+        name: "totals",
+        arguments: &[OBJECT],
+        does: "sums up a budget and all budgets below it, at any depth, and renews nothing",
+        answers: "CPU left; memory used and free, together the budget's memory limit",
+        refusals: &[7],
+        asks_soundness: true,
+        make: |board, a| board.totals(ObjectId(a[0])).map(Answer::Totals),
     },
 ];

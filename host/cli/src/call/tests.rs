@@ -37,7 +37,7 @@ fn names_and_arguments_are_the_headers() {
         (form.name.to_string(), names.collect::<Vec<_>>())
     });
     let forms: Vec<_> = forms.collect();
-    assert_eq!(forms.len(), 25);
+    assert_eq!(forms.len(), 26);
     assert_eq!(forms, in_header());
 }
 

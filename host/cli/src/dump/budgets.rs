@@ -4,7 +4,7 @@ use crate::figures::{bytes, ms};
 use crate::names::Names;
 use crate::table::{Align, Table as Columns};
 use carv_layout::BUDGET;
-use carv_layout::area::{ObjectRow, Table};
+use carv_layout::area::{self, ObjectRow, Table};
 
 /// Levels that are indented. What is deeper has its level written beside it.
 const INDENTED: usize = 12;
@@ -37,6 +37,24 @@ pub(super) fn text(table: &Table, names: &Names) -> String {
         ]);
     }
     format!("Budgets, each below the one that it was carved out of:\n{shown}")
+}
+
+/// A line for each budget with all below it.
+pub(super) fn totals(table: &Table, names: &Names) -> String {
+    let columns = ["CPU left", "memory", "used", "free"].map(|name| (name, Align::Right));
+    let mut shown = Columns::new(&[&[("budget", Align::Left)], &columns[..]].concat());
+    let totals = area::totals(&table.objects);
+    for (level, row) in tree(table) {
+        let sums = totals.get(&row.id).copied().unwrap_or_default();
+        shown.row([
+            label(level, row, names),
+            ms(sums.cpu_left),
+            bytes(row.account.memory_limit),
+            bytes(sums.memory_used),
+            bytes(sums.memory_free),
+        ]);
+    }
+    format!("Totals, each budget with all below it:\n{shown}")
 }
 
 fn label(level: usize, row: &ObjectRow, names: &Names) -> String {
@@ -101,6 +119,26 @@ mod tests {
         let budgets = [(1, 1), (2, 1), (3, 2), (4, 1), (5, 2), (6, 3)];
         let expected = [(0, 1), (1, 2), (2, 3), (3, 6), (2, 5), (1, 4)];
         assert_eq!(levels(&budgets), expected);
+    }
+
+    #[test]
+    fn totals_count_every_level() {
+        let mut table = table(&[(1, 1), (2, 1), (3, 2), (4, 3)]);
+        for (row, reserved) in table.objects.iter_mut().zip([500, 200, 100, 0]) {
+            row.account.memory_limit = [1_000, 500, 200, 100][row.id as usize - 1];
+            row.account.memory_reserved = reserved;
+            row.account.memory_used = 10 * row.id;
+            row.account.cpu_left = 1_000_000;
+        }
+        let expected = "\
+Totals, each budget with all below it:
+  budget   CPU left   memory   used   free
+  1 root       4 ms  1,000 B  100 B  900 B
+    2          3 ms    500 B   90 B  410 B
+      3        2 ms    200 B   70 B  130 B
+        4      1 ms    100 B   40 B   60 B
+";
+        assert_eq!(totals(&table, &Names::default()), expected);
     }
 
     #[test]

@@ -8,7 +8,7 @@ fn the_example_has_the_answers_beside_it() {
     assert_eq!(ran.out, ANSWERS);
     assert_eq!(ran.status, 3);
     assert!(
-        ran.err.contains(": 39 accepted, 2 refused; 0 bad lines\n"),
+        ran.err.contains(": 40 accepted, 2 refused; 0 bad lines\n"),
         "{}",
         ran.err
     );
@@ -18,7 +18,7 @@ fn the_example_has_the_answers_beside_it() {
 }
 
 /// Each call, accepted.
-const CALLS: [(&str, &str); 26] = [
+const CALLS: [(&str, &str); 27] = [
     (
         "open 10_000_000 100_000",
         "[10000000,100000],\"number\":0,\"answer\":{}",
@@ -58,6 +58,10 @@ const CALLS: [(&str, &str); 26] = [
     (
         "account 2",
         "[2],\"number\":0,\"answer\":{\"cpu_ns\":4000000,\"cpu_left_ns\":3000000,\"cpu_reserved_ns\":0,\"period_start_ns\":0,\"memory_bytes\":8192,\"memory_used_bytes\":4096,\"memory_reserved_bytes\":0,\"memory_free_bytes\":4096}",
+    ),
+    (
+        "totals root",
+        "[1],\"number\":0,\"answer\":{\"cpu_left_ns\":9000000,\"memory_used_bytes\":4224,\"memory_free_bytes\":95776}",
     ),
     (
         "create_user_thread 7 2 1",
@@ -107,7 +111,7 @@ fn each_call_has_its_fields() {
         let expected = format!("{{\"line\":{line},\"call\":\"{name}\",\"arguments\":{expected}}}");
         assert_eq!(found.next(), Some(expected.as_str()));
     }
-    let summary = "{\"summary\":{\"lines\":26,\"calls\":26,\"accepted\":26,\"refused\":0,\"refusals\":[],\"bad_lines\":0,\"stopped_at\":null}}";
+    let summary = "{\"summary\":{\"lines\":27,\"calls\":27,\"accepted\":27,\"refused\":0,\"refusals\":[],\"bad_lines\":0,\"stopped_at\":null}}";
     assert_eq!(found.next(), Some(summary));
     assert_eq!(found.next(), None);
 }
@@ -147,6 +151,7 @@ fn each_refusal_is_reached() {
         ("kill idle faulted", 5),
         ("create_user_thread 0 1 1", 5),
         ("remove 99 0", 7),
+        ("totals 3", 7),
         ("wake 0 0 0 0", 8),
         ("remove root 0", 9),
         ("remove 2 0", 10),

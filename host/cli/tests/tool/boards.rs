@@ -75,6 +75,11 @@ Budgets, each below the one that it was carved out of:
   1 root      10 ms  6 ms      4 ms        20 ms  1,000,000 B     128 B  65,536 B  934,336 B
     2          4 ms  3 ms      0 ms        10 ms     65,536 B  37,888 B       0 B   27,648 B
 
+Totals, each budget with all below it:
+  budget  CPU left       memory      used       free
+  1 root      9 ms  1,000,000 B  38,016 B  961,984 B
+    2         3 ms     65,536 B  37,888 B   27,648 B
+
 Other objects:
   object  kind    payer    charge
        4  thread  2      33,792 B
@@ -109,6 +114,7 @@ fn a_board_is_printed_as_json() {
     assert_eq!((ran.status, ran.out.lines().count()), (0, 1));
     for part in [
         "{\"board\":{\"sound\":true,\"next_id\":7,\"current\":5,\"switches\":8,\"budgets\":[{\"id\":1,\"name\":\"root\",",
+        "\"memory_free_bytes\":934336,\"totals\":{\"cpu_left_ns\":9000000,\"memory_used_bytes\":38016,\"memory_free_bytes\":961984}},{\"id\":2,",
         "\"objects\":[{\"id\":4,\"kind\":\"thread\",\"payer\":2,\"charge_bytes\":33792},{\"id\":6,",
         "\"threads\":[{\"id\":0,\"state\":\"blocked\",\"wait\":{\"kind\":\"notification\",\"number\":1},\"budget\":null,",
         "\"queue\":[4],\"exits\":[{\"thread\":5,\"cause\":\"faulted\"}]}}",

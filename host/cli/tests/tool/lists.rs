@@ -81,6 +81,7 @@ fn names_stand_in_answers() {
         "charge_of 3",
         "account 2",
         "account root",
+        "totals 2",
     ]);
     let ran = carv(&["replay", "--dump"], &list);
     let found: Vec<&str> = ran.out.lines().collect();
@@ -104,7 +105,16 @@ fn names_stand_in_answers() {
         "{}",
         found[5]
     );
-    assert!(ran.out.contains("\n    2 bag \"printer\"  "), "{}", ran.out);
+    assert!(
+        found[6].contains(
+            "  bag \"printer\" with all below it: left 0 ms; memory used 1 B, free 127 B"
+        ),
+        "{}",
+        found[6]
+    );
+    // Among the budgets, and among the totals.
+    let lines = ran.out.matches("\n    2 bag \"printer\"  ").count();
+    assert_eq!(lines, 2, "{}", ran.out);
     let ran = carv(&["replay", "--dump", "--json"], &list);
     assert!(
         ran.out

@@ -55,6 +55,7 @@ fn the_calls_are_listed() {
         "\ncreate KIND PAYER BACKING\n",
         "\n    arguments: KIND a kind, PAYER an object, BACKING 0 or 1\n",
         "\n    refused with: 1, 4, 6, 7, 12, 13, 14\n",
+        "\ntotals ID\n",
         "\nstart ID [SPACE CSPACE ROOT RIP RSP RFLAGS RDI RSI CS SS]\n",
         "\n12: the payer can't cover the charge",
     ] {

@@ -126,6 +126,8 @@ calls! {
     23 "switches" Switches {}
     /// Reads why a thread ended.
     24 "exit_of" ExitOf { id: u64 }
+    /// Reads figures of a budget and all below it.
+    25 "totals" Totals { id: u64 }
 }
 
 impl Op {
@@ -141,6 +143,7 @@ impl Op {
                 | Self::Current
                 | Self::Switches
                 | Self::ExitOf
+                | Self::Totals
         )
     }
 }

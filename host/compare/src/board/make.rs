@@ -76,6 +76,11 @@ pub const fn charge_of(id: u64) -> Call {
     Call::ChargeOf { id }
 }
 
+/// Reads figures of a budget and all below it.
+pub const fn totals(id: u64) -> Call {
+    Call::Totals { id }
+}
+
 /// Creates a thread, with a kernel stack.
 pub const fn new_thread(id: u64, budget: u64) -> Call {
     Call::CreateUserThread {

@@ -20,7 +20,7 @@ pub const fn of(op: Op) -> &'static [u64] {
         Op::Refill => &[0, 7],
         Op::ChargeCpu => &[0, 7, 12],
         Op::PaysForAnything => &[0],
-        Op::Account | Op::ChargeOf | Op::Thread => &[0, 7],
+        Op::Account | Op::ChargeOf | Op::Totals | Op::Thread => &[0, 7],
         Op::CreateUserThread => &[0, 5, 6, 14],
         Op::Start => &[0, 7, 8],
         Op::BlockCurrent => &[0, 4, 8],

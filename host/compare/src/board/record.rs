@@ -144,6 +144,8 @@ fn about_object(id: u64, payer: u64) -> Vec<Call> {
         Call::Account { id },
         Call::Account { id: payer },
         Call::PaysForAnything { id: payer },
+        Call::Totals { id },
+        Call::Totals { id: payer },
     ]
 }
 
@@ -170,6 +172,7 @@ fn about_thread(id: u64, state: &Snapshot) -> Vec<Call> {
 mod tests {
     use super::super::numbers;
     use super::super::removal::Removal;
+    use super::super::totals::Whose;
     use super::*;
     use std::collections::BTreeMap;
 
@@ -257,6 +260,24 @@ mod tests {
         for case in Removal::all() {
             let count = found.get(&case).copied().unwrap_or(0);
             assert!(count > 4, "{case:?}: {count}");
+        }
+    }
+
+    /// Also behind the edges of the recorded sample.
+    #[test]
+    fn totals_meet_every_case() {
+        for (count, least) in [(3_000, 1), (COUNT, 100)] {
+            let mut board = Reference::default();
+            let totals = records().take(count).map(|record| {
+                let whose = Whose::of(record.call, board.state());
+                board.call(record.call);
+                whose
+            });
+            let found: Vec<Whose> = totals.skip(edges().len()).flatten().collect();
+            for case in Whose::ALL {
+                let met = found.iter().filter(|whose| **whose == case).count();
+                assert!(met > least, "{case:?}: {met} of {count}");
+            }
         }
     }
 

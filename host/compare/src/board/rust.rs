@@ -38,6 +38,7 @@ pub fn on_rust(call: Call, board: &mut Board) -> Result<Value, u8> {
         Call::PaysForAnything { id } => board.pays_for_anything(id),
         Call::Account { id } => board.account(id),
         Call::ChargeOf { id } => board.charge_of(id),
+        Call::Totals { id } => board.totals(id),
         Call::CreateUserThread { id, budget, stack } => board.create_user_thread(id, budget, stack),
         Call::Start {
             id,

@@ -256,6 +256,9 @@ impl Walk {
             Op::ChargeOf => Call::ChargeOf {
                 id: self.object_or_budget(state),
             },
+            Op::Totals => Call::Totals {
+                id: self.object_or_budget(state),
+            },
             Op::CreateUserThread => self.create_user_thread(state),
             Op::Start => self.start(state),
             Op::BlockCurrent => self.block_current(state),

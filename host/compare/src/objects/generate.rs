@@ -57,7 +57,7 @@ impl Iterator for Records {
 type Edge = (Op, [u64; 4], u64);
 
 /// Document 01's edges of the registry and those of document 02's requests, with readings between.
-const EDGES: [Edge; 98] = [
+const EDGES: [Edge; 124] = [
     // No registry is open.
     (Op::Account, [1, 0, 0, 0], 1),
     (Op::Create, [3, 1, 1, 0], 1),
@@ -169,6 +169,35 @@ const EDGES: [Edge; 98] = [
     (Op::Remove, [2, u64::MAX, 0, 0], 0),
     (Op::Account, [1, 0, 0, 0], 0),
     (Op::Account, [2, 0, 0, 0], 7),
+    // Totals on every level of a tree.
+    (Op::Open, [PERIOD, 1_000_000, 0, 0], 0),
+    (Op::Totals, [1, 0, 0, 0], 0),
+    (Op::CreateBudget, [1, 5_000_000, 100_000, 0], 0),
+    (Op::CreateBudget, [2, 2_000_000, 50_000, 0], 0),
+    (Op::CreateBudget, [3, 500_000, 10_000, 0], 0),
+    (Op::CreateBudget, [1, 1_000_000, 20_000, 0], 0),
+    (Op::Create, [3, 2, 1, 0], 0),
+    (Op::Create, [2, 3, 1, 0], 0),
+    (Op::Create, [7, 4, 1, 0], 0),
+    (Op::Create, [3, 5, 1, 0], 0),
+    (Op::ChargeCpu, [4, 100_000, 0, 0], 0),
+    (Op::Totals, [1, 0, 0, 0], 0),
+    (Op::Totals, [2, 0, 0, 0], 0),
+    (Op::Totals, [3, 0, 0, 0], 0),
+    (Op::Totals, [4, 0, 0, 0], 0),
+    (Op::Totals, [5, 0, 0, 0], 0),
+    // No budget, and no object.
+    (Op::Totals, [6, 0, 0, 0], 7),
+    (Op::Totals, [10, 0, 0, 0], 7),
+    (Op::Totals, [u64::MAX, 0, 0, 0], 7),
+    // One budget is renewed, those that are due stay as they are; then it goes.
+    (Op::Refill, [4, 3 * PERIOD, 0, 0], 0),
+    (Op::Totals, [2, 0, 0, 0], 0),
+    (Op::Remove, [8, 0, 0, 0], 0),
+    (Op::Remove, [4, 0, 0, 0], 0),
+    (Op::Totals, [4, 0, 0, 0], 7),
+    (Op::Totals, [2, 0, 0, 0], 0),
+    (Op::Totals, [1, 0, 0, 0], 0),
 ];
 
 /// Random calls.
@@ -221,11 +250,12 @@ impl Records {
     /// A reading, often of what the last change was about.
     fn reading(&mut self) -> (Op, [u64; 4]) {
         let [id, payer] = self.touched;
-        let any = [Op::Account, Op::ChargeOf, Op::PaysForAnything];
+        let any = [Op::Account, Op::ChargeOf, Op::PaysForAnything, Op::Totals];
+        let of_budgets = [Op::Account, Op::Totals];
         let (op, id) = match self.draw.random.below(8) {
             0 | 1 => (Op::ChargeOf, id),
-            2 => (Op::Account, id),
-            3 | 4 => (Op::Account, payer),
+            2 => (self.draw.random.of(&of_budgets), id),
+            3 | 4 => (self.draw.random.of(&of_budgets), payer),
             5 | 6 => (self.draw.random.of(&any), self.budget()),
             _ => (self.draw.random.of(&any), self.object()),
         };
@@ -409,10 +439,11 @@ impl Records {
 
 #[cfg(test)]
 mod tests {
-    use super::super::call;
+    use super::super::{OPS, call};
     use super::*;
     use crate::board::numbers;
     use crate::board::removal::Removal;
+    use crate::board::totals::Whose;
     use std::collections::BTreeMap;
 
     const COUNT: usize = 100_000;
@@ -475,13 +506,35 @@ mod tests {
     }
 
     #[test]
+    fn figures_of_totals() {
+        let edges = records().take(EDGES.len());
+        let totals = edges.filter(|record| record.op == Op::Totals && record.number == 0);
+        let found: Vec<[u64; 3]> = totals
+            .map(|record| std::array::from_fn(|word| record.values[word]))
+            .collect();
+        let expected = [
+            [0, 1_000_000, PERIOD],
+            [25_152, 974_848, 9_900_000],
+            [20_800, 79_200, 4_900_000],
+            [16_576, 33_424, 1_900_000],
+            [64, 9_936, 400_000],
+            [4_096, 15_904, 1_000_000],
+            [20_800, 79_200, 5_000_000],
+            // Without budget 4, whose CPU time its payer gets at the next renewal.
+            [20_608, 79_392, 4_500_000],
+            [24_960, 975_040, 9_500_000],
+        ];
+        assert_eq!(found, expected);
+    }
+
+    #[test]
     fn every_answer_occurs() {
         let mut found: BTreeMap<(Op, u64), u64> = BTreeMap::new();
         // Before the first opening, 1 too.
         for record in records().skip(EDGES.len()) {
             *found.entry((record.op, record.number)).or_default() += 1;
         }
-        for (op, number) in numbers::all().filter(|(op, _)| Op::ALL[..12].contains(op)) {
+        for (op, number) in numbers::all().filter(|(op, _)| OPS.contains(op)) {
             let count = found.remove(&(op, number)).unwrap_or(0);
             assert!(count > 10, "{op:?} with {number}: {count}");
         }
@@ -501,6 +554,25 @@ mod tests {
         for case in Removal::all() {
             let count = found.get(&case).copied().unwrap_or(0);
             assert!(count > 4, "{case:?}: {count}");
+        }
+    }
+
+    /// Also behind the edges of the recorded sample.
+    #[test]
+    fn totals_meet_every_case() {
+        for (count, least) in [(3_000, 3), (COUNT, 100)] {
+            let mut registry = Registry::default();
+            let totals = records().take(count).map(|record| {
+                let call = call(record.op, record.arguments);
+                let whose = Whose::of(call, registry.state());
+                registry.call(record.op, record.arguments);
+                whose
+            });
+            let found: Vec<Whose> = totals.skip(EDGES.len()).flatten().collect();
+            for case in Whose::ALL {
+                let met = found.iter().filter(|whose| **whose == case).count();
+                assert!(met > least, "{case:?}: {met} of {count}");
+            }
         }
     }
 

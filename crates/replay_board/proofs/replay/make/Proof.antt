@@ -1,7 +1,7 @@
 -- `replay_board::replay::make` meets its contract. Assumes nothing.
 use borrow.Author.Needs.{needs}
 use mathlib.Core.Path.{refl}
-use Rattle.replay_board.specs.Replay.{opened, created, inserted, carved, charged, uncharged, removed, refilled, cpu-charged, asked, account-read, charge-read, thread-created, started, blocked, woken, wait-asked, killed, ticked, planned, thread-read, current-read, switches-read, exit-read}
+use Rattle.replay_board.specs.Replay.{opened, created, inserted, carved, charged, uncharged, removed, refilled, cpu-charged, asked, account-read, charge-read, thread-created, started, blocked, woken, wait-asked, killed, ticked, planned, thread-read, current-read, switches-read, exit-read, totals-read}
 use Rattle.replay_board.specs.Laws.{last-code}
 use Rattle.replay_board.proofs.replay.make.Statement.{statement}
 use Rattle.replay_board.proofs.replay.make.Tie as tie
@@ -34,6 +34,7 @@ make-spec =
     (λ c κs. search needs)  -- carv-current-requires
     (λ c κs. search needs)  -- carv-switches-requires
     (λ c κs. search needs)  -- carv-exit-of-requires
+    (λ c κs. search needs)  -- carv-totals-requires
     (λ c. search needs)  -- same-length
     (λ c. search needs)  -- same-length-2
     (λ c. opened (c .before .before .before .before .before .before .before .match .keys1) (c .before .before .before .before .carv-open .ensures))  -- returns
@@ -105,4 +106,7 @@ make-spec =
     (λ c. switches-read (c .before .before .before .before .before .match .keys23) (c .before .before .carv-switches .ensures) refl)  -- returns-23
     (λ c. search needs)  -- same-length-47
     (λ c. search needs)  -- same-length-48
-    (λ c. exit-read (last-code 23 _ (c .before .before .before .before .before .before .before .before .pre .0) (c .before .before .before .before .before .before .before .before .pre .1) (c .before .before .before .before .before .match .rest)) (c .before .before .carv-exit-of .ensures) refl))  -- returns-24
+    (λ c. exit-read (c .before .before .before .before .before .match .keys24) (c .before .before .carv-exit-of .ensures) refl)  -- returns-24
+    (λ c. search needs)  -- same-length-49
+    (λ c. search needs)  -- same-length-50
+    (λ c. totals-read (last-code 24 _ (c .before .before .before .before .before .before .before .before .pre .0) (c .before .before .before .before .before .before .before .before .pre .1) (c .before .before .before .before .before .match .rest)) (c .before .before .carv-totals .ensures) refl))  -- returns-25

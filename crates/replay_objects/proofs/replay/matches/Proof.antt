@@ -1,15 +1,10 @@
 -- `replay_objects::replay::matches` meets its contract. Assumes nothing.
 use borrow.Author.Needs.{needs}
 use mathlib.Core.Path.{refl}
-use Rattle.replay_objects.specs.Replay.{opened, created, inserted, carved, charged, uncharged, removed, refilled, cpu-charged, asked, read, charge-read, made, not-listed}
+use Rattle.replay_objects.specs.Replay.{opened, created, inserted, carved, charged, uncharged, removed, refilled, cpu-charged, asked, read, charge-read, totals-read, made, not-listed}
 use Rattle.replay_objects.specs.Laws.{none-listed}
 use Rattle.replay_objects.proofs.replay.matches.Statement.{statement}
 use Rattle.replay_objects.proofs.replay.matches.Tie as tie
-
-returns-13 : tie.Need-returns-13
-returns-13 c =
-    let n = c .match .rest in
-    not-listed (none-listed _ (n .0 .0 .0 .0 .0 .0 .0 .0 .0 .0 .0 .1) (n .0 .0 .0 .0 .0 .0 .0 .0 .0 .0 .1) (n .0 .0 .0 .0 .0 .0 .0 .0 .0 .1) (n .0 .0 .0 .0 .0 .0 .0 .0 .1) (n .0 .0 .0 .0 .0 .0 .0 .1) (n .0 .0 .0 .0 .0 .0 .1) (n .0 .0 .0 .0 .0 .1) (n .0 .0 .0 .0 .1) (n .0 .0 .0 .1) (n .0 .0 .1) (n .0 .1) (n .1)) refl refl
 
 pub matches-spec : {M : Type 1} → statement M
 matches-spec =
@@ -39,6 +34,8 @@ matches-spec =
     (λ c κs. search needs)  -- replies-requires-11
     (λ c κs. search needs)  -- charge-of-requires
     (λ c κs. search needs)  -- replies-requires-12
+    (λ c κs. search needs)  -- totals-requires
+    (λ c κs. search needs)  -- replies-requires-13
     (λ c. search needs)  -- same-length
     (λ c. made _ (opened (c .before .before .before .before .before .match .keys1) (c .before .before .before .«open» .ensures)) (c .replies .ensures))  -- returns
     (λ c. search needs)  -- same-length-2
@@ -63,4 +60,7 @@ matches-spec =
     (λ c. made _ (read (c .before .before .before .match .keys11) (c .before .account .ensures) refl) (c .replies11 .ensures))  -- returns-11
     (λ c. search needs)  -- same-length-12
     (λ c. made _ (charge-read (c .before .before .before .match .keys12) (c .before .charge-of .ensures) refl) (c .replies12 .ensures))  -- returns-12
-    returns-13)
+    (λ c. search needs)  -- same-length-13
+    (λ c. made _ (totals-read (c .before .before .before .match .keys13) (c .before .totals .ensures) refl) (c .replies13 .ensures))  -- returns-13
+    (λ c. let n = c .match .rest in
+    not-listed (none-listed _ (n .0 .0 .0 .0 .0 .0 .0 .0 .0 .0 .0 .0 .1) (n .0 .0 .0 .0 .0 .0 .0 .0 .0 .0 .0 .1) (n .0 .0 .0 .0 .0 .0 .0 .0 .0 .0 .1) (n .0 .0 .0 .0 .0 .0 .0 .0 .0 .1) (n .0 .0 .0 .0 .0 .0 .0 .0 .1) (n .0 .0 .0 .0 .0 .0 .0 .1) (n .0 .0 .0 .0 .0 .0 .1) (n .0 .0 .0 .0 .0 .1) (n .0 .0 .0 .0 .1) (n .0 .0 .0 .1) (n .0 .0 .1) (n .0 .1) (n .1)) refl refl))  -- returns-14

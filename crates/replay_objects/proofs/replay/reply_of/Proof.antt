@@ -25,6 +25,7 @@ reply-of-spec =
     (λ c. search needs)  -- enum-known-answer-3
     (λ c κs. search needs)  -- short-requires-7
     (λ c. search needs)  -- enum-known-answer-4
+    (λ c. search needs)  -- enum-known-answer-5
     (λ c κs. search needs)  -- short-requires-8
     (λ c. replied-as _ _ (c .before .enum-told .given .1) _ (c .short .ensures))  -- returns
     (λ c. replied-as _ _ (c .before .before .answer .given .1) _ (c .short2 .ensures))  -- returns-2
@@ -34,4 +35,5 @@ reply-of-spec =
     (λ c. replied-as _ _ (c .before .enum-told5 .given .1) _ (c .short6 .ensures))  -- returns-6
     (λ c. replied-as _ _ (c .before .answer2 .given .1) _ refl)  -- returns-7
     (λ c. replied-as _ _ (c .before .before .answer3 .given .1) _ (c .short7 .ensures))  -- returns-8
-    (λ c. replied-as _ _ (c .before .before .answer4 .given .1) _ (c .short8 .ensures)))  -- returns-9
+    (λ c. replied-as _ _ (c .before .answer4 .given .1) _ refl)  -- returns-9
+    (λ c. replied-as _ _ (c .before .before .answer5 .given .1) _ (c .short8 .ensures)))  -- returns-10

@@ -2,7 +2,7 @@
 
 use super::Report;
 use crate::soak::{Found, Limit, Options};
-use crate::tally::REMOVALS;
+use crate::tally::{REMOVALS, TOTALS};
 use carv_compare::board::call::Op;
 use carv_text::json::Json;
 
@@ -32,6 +32,7 @@ impl Report {
             ("refusals", self.refusals_json()),
             ("boards", self.boards_json()),
             ("removals", self.removals_json()),
+            ("totals", self.totals_json()),
             ("damaged", self.damaged_json()),
             ("differences", Json::Number(self.differences())),
             ("difference", self.difference_json()),
@@ -85,6 +86,19 @@ impl Report {
         });
         let names = ["budget", "another_kind", "refused"];
         Json::object(names.into_iter().zip(removals))
+    }
+
+    fn totals_json(&self) -> Json {
+        let counts = TOTALS.map(|(_, whose)| Json::Number(self.tally.totals(whose)));
+        let names = [
+            "root",
+            "three_levels",
+            "two_levels",
+            "leaf",
+            "another_kind",
+            "missing",
+        ];
+        Json::object(names.into_iter().zip(counts))
     }
 
     fn damaged_json(&self) -> Json {

@@ -2,7 +2,7 @@
 
 use super::Report;
 use crate::damage;
-use crate::tally::REMOVALS;
+use crate::tally::{REMOVALS, TOTALS};
 use carv_compare::board::call::Op;
 use carv_compare::board::numbers;
 use carv_text::figures::{counted, grouped};
@@ -117,6 +117,16 @@ impl Report {
         });
         for (name, [due, not_due, fell]) in [("removals", heads)].into_iter().chain(counted) {
             writeln!(f, "{name:20}{due:>14}{not_due:>14}{fell:>14}")?;
+        }
+        writeln!(f)?;
+        self.write_totals(f)
+    }
+
+    /// The totals by whose they were.
+    fn write_totals(&self, f: &mut fmt::Formatter<'_>) -> fmt::Result {
+        writeln!(f, "{:20}{:>14}", "totals", "read")?;
+        for (name, whose) in TOTALS {
+            writeln!(f, "{name:20}{:>14}", grouped(self.tally.totals(whose)))?;
         }
         writeln!(f)
     }
