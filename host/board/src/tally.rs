@@ -58,7 +58,7 @@ pub const REMOVALS: [Removals; 3] = [
 /// The totals that a report counts, with their names.
 pub const TOTALS: [(&str, Whose); Whose::ALL.len()] = [
     ("of the root", Whose::Root),
-    ("over three levels", Whose::Deep),
+    ("over three levels or more", Whose::Deep),
     ("over two levels", Whose::Inner),
     ("of a leaf", Whose::Leaf),
     ("of another kind", Whose::NoBudget),

@@ -67,6 +67,8 @@ fn totals_are_timed_beside_question_1() {
     });
     let ratios: Vec<f64> = ratios.map(|ratio| ratio.expect("a ratio")).collect();
     assert_eq!(ratios.len(), 7, "{}", run.out);
-    assert!(ratios.iter().all(|ratio| *ratio > 0.8), "{ratios:?}");
+    // Totals ask question 1 of this board themselves, and go once over its rows.
+    let likely = ratios.iter().all(|ratio| *ratio > 1.05 && *ratio < 6.0);
+    assert!(likely, "{ratios:?}");
     assert!(run.out.contains("\nThe highest ratio is "), "{}", run.out);
 }

@@ -287,6 +287,14 @@ fn damaged_areas_find_mistakes_in_totals() {
     let found = with(unmet, || damaged::damaged(8_000, SEED));
     let why = found.expect_err("a difference");
     assert!(why.contains("the totals are ["), "{why}");
+    for mistake in [
+        Mistake::TotalsOfOtherKindsAre0,
+        Mistake::TotalsOfMissingIdsAre0,
+    ] {
+        let found = with(mistake, || damaged::damaged(8_000, SEED));
+        let why = found.expect_err("a difference");
+        assert!(why.starts_with("area "), "{mistake:?}: {why}");
+    }
 }
 
 /// By this seed each of these mistakes is found after a few hundred calls on a board.

@@ -26,8 +26,9 @@ pub fn answer(answer: &Answer, arguments: &[u64], names: &Names) -> String {
             format!("{}, paid by {payer}", bytes(charge.bytes))
         }
         Answer::Totals(sums) => {
-            let name = name(arguments, names).map(|name| format!("{name} "));
-            name.unwrap_or_default() + &totals(&answer::sums(sums))
+            let id = arguments.first().copied().unwrap_or_default();
+            let whose = names.get(id).map_or(format!("budget {id}"), str::to_string);
+            format!("{whose} {}", totals(&answer::sums(sums)))
         }
         Answer::Ended(None) => "ended, it waited for nothing".to_string(),
         Answer::Ended(Some(it)) => format!("ended, it waited: {}", wait(it.codes().into())),

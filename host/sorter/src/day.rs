@@ -123,14 +123,9 @@ impl Sorter {
                 noted.memory = noted.memory.max(totals.memory_used_bytes);
             }
         }
-        let Totals {
-            memory_used_bytes: used,
-            memory_free_bytes: free,
-            ..
-        } = self.board.totals(ObjectId::ROOT)?;
-        self.day.memory = self.day.memory.max(used);
-        let whole = used.checked_add(free);
-        self.day.memory_lost += u64::from(whole != Some(BOARD.memory_bytes));
+        let all = self.board.totals(ObjectId::ROOT)?;
+        self.day.memory = self.day.memory.max(all.memory_used_bytes);
+        self.day.memory_lost += u64::from(!is_whole(&all));
         Ok(())
     }
 
@@ -244,5 +239,28 @@ impl Sorter {
         let restored = Board::from_bytes(day.board.as_bytes());
         day.sound = restored.is_ok_and(|restored| restored == day.board);
         Ok(day)
+    }
+}
+
+/// Are the memory used and free of all the board's memory?
+fn is_whole(all: &Totals) -> bool {
+    all.memory_used_bytes.checked_add(all.memory_free_bytes) == Some(BOARD.memory_bytes)
+}
+
+#[cfg(test)]
+mod tests {
+    use super::*;
+
+    #[test]
+    fn memory_is_whole_or_not() {
+        let all = |memory_used_bytes, memory_free_bytes| Totals {
+            memory_used_bytes,
+            memory_free_bytes,
+            cpu_left_ns: 0,
+        };
+        let board = BOARD.memory_bytes;
+        assert!(is_whole(&all(640, board - 640)) && is_whole(&all(board, 0)));
+        assert!(!is_whole(&all(640, board)) && !is_whole(&all(640, board - 641)));
+        assert!(!is_whole(&all(u64::MAX, board + 1)));
     }
 }

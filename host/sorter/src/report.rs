@@ -146,5 +146,8 @@ fn table(day: &Day) -> Vec<String> {
     lines.push(String::new());
     lines.push("  Averages are over the periods in which a service was switched on.".to_string());
     lines.push("  Idle has as its share what no service was given.".to_string());
+    lines.push(
+        "  All is the most that was used at once, with what the root pays for budgets.".to_string(),
+    );
     lines
 }

@@ -106,7 +106,7 @@ fn the_report_tells() {
         "bag printer on again",
         "upload overruns",
         "\n  idle ",
-        "\n  all ",
+        "\n  all                                                         403,712    524,288\n",
         "yes  No service got more than its share in any period.",
     ] {
         assert!(report.contains(text), "{text}");

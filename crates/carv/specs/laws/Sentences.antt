@@ -9,10 +9,11 @@ use native.Mathlib.Omega.{arith}
 use lib.Dec.{eqb, leb}
 use lib.ListN.{length, getD}
 use lib.Seq.{sets}
-use borrow.Author.Tests.{eq-eqb, ne-eqb}
+use borrow.Author.Tests.{eqb-true, eq-eqb, ne-eqb}
 use Rattle.carv_area.specs.Table.{at}
 use Rattle.carv_area.specs.laws.Table.{test}
 use Rattle.carv_budget.specs.Account.{due}
+use Rattle.carv_budget.specs.laws.Account.{first}
 use Rattle.carv_budget.specs.Panics.{AllPass}
 use Rattle.carv_objects_spec.specs.Registry.{account-of, entry, has, is-budget, payer-of, pays-for, Registry, remove}
 use Rattle.carv_objects_spec.specs.Question15.{remove-asking-15}
@@ -46,7 +47,7 @@ use Rattle.carv_scheduler_spec.specs.Demand2.{rust-run, in-rust}
 use Rattle.carv_scheduler_spec.specs.laws.Demand2.{compared-after}
 use Rattle.carv_scheduler_spec.specs.Demand3.{Planned}
 use Rattle.carv.specs.C.{reported, Opens, has-image, Made, Ensures, lent}
-use Rattle.carv.specs.Demands.{Ran, last, GivenAs, NoneAdded, AllWords, booked}
+use Rattle.carv.specs.Demands.{Ran, last, GivenAs, GivenAsRust, AsRust, NoneAdded, AllWords, booked}
 use Rattle.carv.specs.laws.Reporting.{totals-written}
 use Rattle.carv.specs.laws.Demand1.{demand1}
 use Rattle.carv.specs.laws.Demand2.{demand2}
@@ -57,6 +58,14 @@ pub answered-as : (e : Made) (z : BoardReply) → GivenAs e z
     → (e .returned ≡ z .number) × ((x : Answer) × (e .returned ≡ number x) × (value x ≡ z .value) × (e .words′ ≡ reported x (e .words)))
     × (sound-area (e .left) ≡ true) × (decode (e .left) ≡ z .after)
 answered-as e z g = (g .number, (g .answer, g .returned, g .value, g .written), g .area .sound, g .area .same)
+
+-- three words written from the first on
+three-set : (l : List ℕ) (x y z : ℕ) → 3 ≤ length l
+    → (getD (sets l 0 (x ∷ y ∷ z ∷ [])) 0 0 ≡ x) × (getD (sets l 0 (x ∷ y ∷ z ∷ [])) 1 0 ≡ y) × (getD (sets l 0 (x ∷ y ∷ z ∷ [])) 2 0 ≡ z)
+three-set [] x y z h = absurd (omega arith)
+three-set (p ∷ []) x y z h = absurd (omega arith)
+three-set (p ∷ q ∷ []) x y z h = absurd (omega arith)
+three-set (p ∷ q ∷ r ∷ l) x y z h = (refl, refl, refl)
 
 -- Demand 1.
 
@@ -227,13 +236,19 @@ module _ (a : List ℕ) (e : Made) (h : Ensures a e) where
       pub totals-told : e .words′ ≡ sets (e .words) 0 (reading.over reading.used registry i ∷ reading.over reading.free registry i ∷ reading.over reading.left registry i ∷ [])
       totals-told = given .written ∙ totals-written (given .answer) (reading.totals registry i) (e .words) (given .value ∙ rw l)
 
-      -- "For each budget, used plus free over it and all below must equal its memory limit"
-      pub used-and-free : reading.over reading.used registry i + reading.over reading.free registry i ≡ account-of registry i .«memory_limit»
-      used-and-free = memory-total registry (area-sound a s .registry) i l
+      first-three : (getD (e .words′) 0 0 ≡ reading.over reading.used registry i) × (getD (e .words′) 1 0 ≡ reading.over reading.free registry i)
+          × (getD (e .words′) 2 0 ≡ reading.over reading.left registry i)
+      first-three =
+          let size : length (e .words) ≡ 20 = eqb-true (length (e .words)) 20 (first (eqb (length (e .words)) 20) (cond (has-image (e .call)) (eqb (length (e .image)) 512) true) y) in
+          rw totals-told (three-set (e .words) (reading.over reading.used registry i) (reading.over reading.free registry i) (reading.over reading.left registry i) (omega arith))
 
-      -- CPU left over it and all below is at most its allowance
-      pub left-allowed : reading.over reading.left registry i ≤ account-of registry i .«cpu_allowance»
-      left-allowed = cpu-total registry (area-sound a s .registry) i l
+      -- "For each budget, used plus free over it and all below must equal its memory limit": of the first two answer words
+      pub used-and-free : getD (e .words′) 0 0 + getD (e .words′) 1 0 ≡ account-of registry i .«memory_limit»
+      used-and-free = omega (arith, first-three .0, first-three .1, memory-total registry (area-sound a s .registry) i l)
+
+      -- CPU left over it and all below, the third, is at most its allowance
+      pub left-allowed : getD (e .words′) 2 0 ≤ account-of registry i .«cpu_allowance»
+      left-allowed = omega (arith, first-three .2, cpu-total registry (area-sound a s .registry) i l)
 
     -- "Root totals are the totals over all live budgets"
     pub root-totals : i ≡ 1 → e .words′ ≡ sets (e .words) 0 (reading.over-all reading.used registry ∷ reading.over-all reading.free registry ∷ reading.over-all reading.left registry ∷ [])
@@ -291,15 +306,26 @@ pub question-1 : (a : List ℕ) (r : Bool) → r ≡ sound-area a → (e : Made)
 question-1 a r q e h = let u = demand1 .is-sound a r q in (λ no. u .no no e h, λ yes. u .yes yes e h)
 
 -- Demand 2, from an accepted opening: the opened board is the Rust's, and so is, in a list without an added refusal, the answer to each call that the Rust has and the board
--- that each leaves; here of the first.
+-- that each leaves.
+
+-- the Rust's board after a list of calls
+abbrev pub rust-board : List Made → Board → Board
+rust-board [] b = b
+rust-board (e ∷ es) b = rust-board es (rust-run (e .call) b .after)
+
+placed : (front rest : List Made) (e : Made) (b : Board) → AsRust (front ++ (e ∷ rest)) b → GivenAsRust e (rust-run (e .call) (rust-board front b))
+placed [] rest e b h = h .0
+placed (x ∷ front) rest e b h = placed front rest e (rust-run (x .call) b .after) (h .1)
+
 module _ (cpu memory : ℕ) (a₀ a out out′ : List ℕ) (o : Opens cpu memory a₀ out 0 a out′) where
   pub opened-as-rust : decode a ≡ rust.new cpu memory
   opened-as-rust = demand2 cpu memory a₀ a out out′ o [] tt tt .opened .same
 
-  pub first-as-rust : (e : Made) (es : List Made) → Ran (e ∷ es) a → NoneAdded (e ∷ es)
-      → (in-rust (e .call) ≡ true → GivenAs e (rust-run (e .call) (rust.new cpu memory))) × (decode (e .left) ≡ rust-run (e .call) (rust.new cpu memory) .after)
-  first-as-rust e es h n =
-      let g = demand2 cpu memory a₀ a out out′ o (e ∷ es) h n .answers .0 in (
+  pub each-as-rust : (front rest : List Made) (e : Made) → Ran (front ++ (e ∷ rest)) a → NoneAdded (front ++ (e ∷ rest))
+      → (in-rust (e .call) ≡ true → GivenAs e (rust-run (e .call) (rust-board front (rust.new cpu memory))))
+      × (decode (e .left) ≡ rust-run (e .call) (rust-board front (rust.new cpu memory)) .after)
+  each-as-rust front rest e h n =
+      let g = placed front rest e (rust.new cpu memory) (demand2 cpu memory a₀ a out out′ o (front ++ (e ∷ rest)) h n .answers) in (
         λ i. subst (GivenAs e) (sym (ap (λ (t : Bool). cond t (g .reply) (without-answer (g .reply))) i) ∙ g .same) (g .given),
         g .given .area .same ∙ sym (compared-after (e .call) (g .reply)) ∙ ap (λ (x : BoardReply). x .after) (g .same),
       )
@@ -316,6 +342,11 @@ module _ (cpu memory : ℕ) (a₀ a out out′ : List ℕ) (o : Opens cpu memory
   totals-by-book front rest e i h f c r =
       let g = demand3 cpu memory a₀ a out out′ o (front ++ (e ∷ rest)) h f .totals front rest e i refl c r in
       g .written ∙ totals-written (g .answer) (totals-of (booked front cpu memory .objects) i) (e .words) (g .value)
+
+  -- .. and leaves the board
+  pub totals-leave-board : (front rest : List Made) (e : Made) (i : ℕ) → Ran (front ++ (e ∷ rest)) a → AllWords (front ++ (e ∷ rest)) → e .call ≡ on-objects (objects.read-totals i)
+      → e .returned ≡ 0 → decode (e .left) ≡ decode (last front a)
+  totals-leave-board front rest e i h f c r = demand3 cpu memory a₀ a out out′ o (front ++ (e ∷ rest)) h f .totals front rest e i refl c r .area .same
 
   -- Demand 3: "two lists leave a budget equal lines exactly when these agree"
   pub equal-lines : (es : List Made) → Ran es a → AllWords es → (es′ : List Made) (b₀ b w w′ : List ℕ) (cpu′ memory′ : ℕ) → Opens cpu′ memory′ b₀ w 0 b w′

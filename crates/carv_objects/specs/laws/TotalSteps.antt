@@ -1,6 +1,6 @@
 -- P1's totals as the code sums them, in one pass over the rows that marks those within the budget. Assumes nothing.
 use mathlib.Core.Path.{_≡_, refl, sym, _∙_, ap}
-use mathlib.Core.Bool.{Bool, true, false, cond, not, _&&_, _||_}
+use mathlib.Core.Bool.{Bool, true, false, cond, not, _||_}
 use mathlib.Core.Option.{none, some}
 use mathlib.Core.List.{List, [], _∷_}
 use Prim.Native.Nat.{ℕ, zero, suc, _+_, _^_, _≤_, _<_}
@@ -108,9 +108,6 @@ module _ (r : Registry) (s : Sound r) (k : ℕ) (h : k < length (r .rows)) where
   place-is : at (r .rows) (getD (r .rows) k no-row .id) ≡ some (getD (r .rows) k no-row .it)
   place-is = at-place (r .rows) 1 (r .next) k (s .rising) h
 
-  pub place-has : (x : ℕ) → x ≡ getD (r .rows) k no-row .id → has r x ≡ true
-  place-has x q = rw q (ap found place-is)
-
   pub place-sound : (c : Account) → c ≡ getD (r .rows) k no-row .it .account → account.sound c ≡ true
   place-sound c q = rw q (account-sound (s .each (getD (r .rows) k no-row .id) (getD (r .rows) k no-row .it) place-is))
 
@@ -139,7 +136,7 @@ counted r i counts c f h q p = let on = not-false counts h in rw (p, q) (record 
 abbrev weight : (Account → ℕ) → Registry → (b : ℕ) → ℕ → Entry → ℕ
 weight f r b i e = cond (within r b i) (f (e .account)) 0
 
-abbrev pub so-far : (Account → ℕ) → Registry → (b k : ℕ) → ℕ
+abbrev so-far : (Account → ℕ) → Registry → (b k : ℕ) → ℕ
 so-far f r b k = total (weight f r b) (take k (r .rows))
 
 -- what is known before place k: the marks, and the three sums

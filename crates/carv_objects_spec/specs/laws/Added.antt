@@ -14,7 +14,7 @@ use Rattle.carv_objects_spec.specs.Rust as rust
 use Rattle.carv_objects_spec.specs.Book.{Call, create, insert, create-budget, charge-more, uncharge, remove, refill, charge-cpu, pays-for-anything, read-account, charge-of, read-totals}
 use Rattle.carv_objects_spec.specs.Refused.{added}
 use Rattle.carv_objects_spec.specs.Runs.{run, Numbered, numbers}
-use Rattle.carv_objects_spec.specs.Demand2.{in-rust, is-added, compared, compared-replies, rust-replies, NoneAdded}
+use Rattle.carv_objects_spec.specs.Demand2.{in-rust, is-added, compared-replies, rust-replies, NoneAdded}
 use Rattle.carv_objects_spec.specs.laws.Demand2.{demand2}
 
 -- Which numbers are added.

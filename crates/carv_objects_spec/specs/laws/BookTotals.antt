@@ -11,12 +11,12 @@ use Rattle.carv_area.specs.laws.Sums.{weight-of, total-same-at}
 use Rattle.carv_budget.specs.declared.Account.{Account}
 use Rattle.carv_budget.specs.Account.{period}
 use Rattle.carv_objects_spec.specs.declared.Entry.{Entry}
-use Rattle.carv_objects_spec.specs.declared.Totals.{Totals}
-use Rattle.carv_objects_spec.specs.Registry.{Registry, opening, or-missing, payer-of, is-budget}
+use Rattle.carv_objects_spec.specs.Registry.{Registry, opening, or-missing, payer-of}
 use Rattle.carv_objects_spec.specs.Within.{meets, within}
 use Rattle.carv_objects_spec.specs.Totals.{over, totals, used, free, left}
 use Rattle.carv_objects_spec.specs.Book as book
-use Rattle.carv_objects_spec.specs.Book.{Book, Object, Budget, Call, object-of}
+use Rattle.carv_objects_spec.specs.Book.{Book, Object, Budget, Call, object-of, pays-for-anything, read-account, charge-of, read-totals, write}
+use Rattle.carv_objects_spec.specs.Demand1.{renewal-left}
 use Rattle.carv_objects_spec.specs.BookTotals.{climbs, summed, totals-of}
 use Rattle.carv_objects_spec.specs.Runs.{after, book-after}
 use Rattle.carv_objects_spec.specs.laws.SoundFacts.{Sound}
@@ -67,3 +67,17 @@ pub totals-by-book : (cpu memory : ℕ) → cpu ≤ period → (cs : List Call) 
 totals-by-book cpu memory h cs i =
     let S = after-stands cs (opening cpu memory) (book.opening cpu memory) (opening-stands cpu memory h) in
     totals-same (after cs (opening cpu memory)) (book-after cs cpu memory) (S .follows) i (S .sound)
+
+-- A reading moves nothing in the book, whatever it answers, and leaves no renewal.
+module _ (i n : ℕ) (k : Book) where
+  same : (a b : Bool) → _≡_ {A = Book} (cond a k (cond b k k)) k
+  same true b = refl
+  same false true = refl
+  same false false = refl
+
+  pub readings-write-nothing : (write (pays-for-anything i) n k ≡ k) × (write (read-account i) n k ≡ k) × (write (charge-of i) n k ≡ k) × (write (read-totals i) n k ≡ k)
+  readings-write-nothing = let w = same (eqb n 0) (eqb n 12) in (w, w, w, w)
+
+pub readings-renew-nothing : (i n : ℕ) (r : Registry)
+    → (renewal-left (pays-for-anything i) n r ≡ none) × (renewal-left (read-account i) n r ≡ none) × (renewal-left (charge-of i) n r ≡ none) × (renewal-left (read-totals i) n r ≡ none)
+readings-renew-nothing i n r = (refl, refl, refl, refl)

@@ -3,13 +3,12 @@
 use mathlib.Core.Path.{_≡_, refl, sym, _∙_, ap}
 use mathlib.Core.Bool.{Bool, true, false, cond, not, _&&_}
 use mathlib.Core.Option.{some}
-use mathlib.Core.List.{List, [], _∷_}
 use Prim.Native.Nat.{ℕ, _+_, _≤_}
 use native.Mathlib.Omega.{arith}
 use lib.Dec.{eqb}
 use borrow.Author.Tests.{eqb-true, eqb-false, eq-eqb, ne-eqb}
 use Rattle.carv_area.specs.laws.Table
-use Rattle.carv_area.specs.Table.{Row, at, erase, total, Rising}
+use Rattle.carv_area.specs.Table.{at, total}
 use Rattle.carv_area.specs.laws.Table.{All, test}
 use Rattle.carv_area.specs.laws.Sums.{total-eq, total-sum, total-le, total-one, total-swap}
 use Rattle.carv_budget.specs.declared.Account.{Account}
@@ -48,7 +47,7 @@ and-false false h = refl
 
 module _ (r : Registry) (s : Sound r) where
   -- a claim on each live entry
-  pub each-row : (P : ℕ → Entry → Type 0) → ((i : ℕ) (e : Entry) → at (r .rows) i ≡ some e → P i e) → All P (r .rows)
+  each-row : (P : ℕ → Entry → Type 0) → ((i : ℕ) (e : Entry) → at (r .rows) i ≡ some e → P i e) → All P (r .rows)
   each-row P h = Table.all-at P (r .rows) 1 (r .next) (s .rising) h
 
   -- the sum of a figure over the entries within b
@@ -61,8 +60,8 @@ module _ (r : Registry) (s : Sound r) where
 
   module _ (b : ℕ) (y : Entry) (B : BudgetEntry r b y) (v : Entry → ℕ) where
     -- the children of those within b, by their payers
-    by-payer : total (λ j d. cond (within r b j) (of-children v j) 0) (r .rows) ≡ total (λ c e. cond (within r b (e .payer) && not (eqb c (e .payer))) (v e) 0) (r .rows)
-    by-payer =
+    children-by-payer : total (λ j d. cond (within r b j) (of-children v j) 0) (r .rows) ≡ total (λ c e. cond (within r b (e .payer) && not (eqb c (e .payer))) (v e) 0) (r .rows)
+    children-by-payer =
         total-swap (within r b) (λ j c e. cond (is-child j c e) (v e) 0) (r .rows) (r .rows)
         ∙ total-eq (λ c e. total (λ j d. cond (within r b j) (cond (is-child j c e) (v e) 0) 0) (r .rows)) (λ c e. cond (within r b (e .payer) && not (eqb c (e .payer))) (v e) 0) (r .rows)
         (each-row (λ c e. total (λ j d. cond (within r b j) (cond (is-child j c e) (v e) 0) 0) (r .rows) ≡ cond (within r b (e .payer) && not (eqb c (e .payer))) (v e) 0)
@@ -102,7 +101,7 @@ module _ (r : Registry) (s : Sound r) where
     children-inside =
         omega (
           arith,
-          by-payer,
+          children-by-payer,
           total-one (λ c e. v e) (r .rows) 1 (r .next) b y (s .rising) (B .here),
           total-sum (λ c e. cond (within r b (e .payer) && not (eqb c (e .payer))) (v e) 0) (λ c e. cond (eqb b c) (v e) 0) (r .rows),
           total-eq (λ c e. cond (within r b (e .payer) && not (eqb c (e .payer))) (v e) 0 + cond (eqb b c) (v e) 0) (λ c e. cond (within r b c) (v e) 0) (r .rows)

@@ -14,10 +14,10 @@ use Rattle.carv_objects_spec.specs.Registry.{Registry, RegistryReply, op
 use Rattle.carv_objects_spec.specs.Book as book
 use Rattle.carv_objects_spec.specs.Book.{Book, Call, create, create-budget, charge-cpu, remove}
 use Rattle.carv_objects_spec.specs.BookTotals.{totals-of}
-use Rattle.carv_objects_spec.specs.Runs.{after, Numbered, write-all}
+use Rattle.carv_objects_spec.specs.Runs.{run, after, Numbered, write-all}
 use Rattle.carv_objects_spec.specs.Sound.{all, sound}
 use Rattle.carv_objects_spec.specs.Within.{within}
-use Rattle.carv_objects_spec.specs.Totals.{read-totals, over-all, used, free, left}
+use Rattle.carv_objects_spec.specs.Totals.{over-all, used, free, left}
 
 -- a budget's row; and that of a Frame
 abbrev budget : (i payer bytes allowance limit left cpu-reserved used memory-reserved : ℕ) → Row Entry
@@ -61,6 +61,14 @@ pruned = record {
       ∷ budget 6 1 128 2_000_000 1_000 2_000_000 0 0 0 ∷ [];
 }
 
+-- seven budgets, each carved from the one before it
+abbrev chain : Registry
+chain = record {
+  next = 8;
+  rows = budget 1 1 0 0 0 0 0 0 0 ∷ budget 2 1 0 0 0 0 0 0 0 ∷ budget 3 2 0 0 0 0 0 0 0 ∷ budget 4 3 0 0 0 0 0 0 0 ∷ budget 5 4 0 0 0 0 0 0 0 ∷ budget 6 5 0 0 0 0 0 0 0
+      ∷ budget 7 6 0 0 0 0 0 0 0 ∷ [];
+}
+
 abbrev calls : List Call
 calls =
     create 3 1 true ∷ create-budget 1 4_000_000 20_000 0 ∷ create-budget 3 1_000_000 8_192 0 ∷ create 3 4 true ∷ create-budget 1 2_000_000 1_000 0
@@ -98,27 +106,28 @@ pub record Cases : Type 0 where
   pub cut : after (remove 7 0 ∷ []) tree ≡ pruned
   pub sound : all (sound tree ∷ sound pruned ∷ []) ≡ true
   -- a budget with none below it; one that pays 4,096 and 128 bytes; one two levels up, which pays 128; one beside them; the root, which pays 4,096 and twice 128
-  pub leaf : Reads (read-totals 7 tree) 0 2_000 300_000
-  pub inner : Reads (read-totals 4 tree) 4_224 3_968 800_000
-  pub upper : Reads (read-totals 3 tree) 4_352 15_648 3_800_000
-  pub beside : Reads (read-totals 6 tree) 0 1_000 2_000_000
-  pub root : Reads (read-totals 1 tree) 8_704 991_296 9_800_000
+  pub leaf : Reads (run (book.read-totals 7) tree) 0 2_000 300_000
+  pub inner : Reads (run (book.read-totals 4) tree) 4_224 3_968 800_000
+  pub upper : Reads (run (book.read-totals 3) tree) 4_352 15_648 3_800_000
+  pub beside : Reads (run (book.read-totals 6) tree) 0 1_000 2_000_000
+  pub root : Reads (run (book.read-totals 1) tree) 8_704 991_296 9_800_000
   pub all-live : (over-all used tree ≡ 8_704) × (over-all free tree ≡ 991_296) × (over-all left tree ≡ 9_800_000)
   -- budget 7 removed
-  pub inner-pruned : Reads (read-totals 4 pruned) 4_096 4_096 500_000
-  pub upper-pruned : Reads (read-totals 3 pruned) 4_224 15_776 3_500_000
-  pub root-pruned : Reads (read-totals 1 pruned) 8_576 991_424 9_500_000
-  pub removed : read-totals 7 pruned .number ≡ 7
+  pub inner-pruned : Reads (run (book.read-totals 4) pruned) 4_096 4_096 500_000
+  pub upper-pruned : Reads (run (book.read-totals 3) pruned) 4_224 15_776 3_500_000
+  pub root-pruned : Reads (run (book.read-totals 1) pruned) 8_576 991_424 9_500_000
+  pub removed : run (book.read-totals 7) pruned .number ≡ 7
   -- the same by the book
   pub by-book : all (figures-are 0 2_000 300_000 (totals-of booked 7) ∷ figures-are 4_224 3_968 800_000 (totals-of booked 4) ∷ figures-are 4_352 15_648 3_800_000 (totals-of booked 3)
       ∷ figures-are 0 1_000 2_000_000 (totals-of booked 6) ∷ figures-are 8_704 991_296 9_800_000 (totals-of booked 1) ∷ []) ≡ true
   pub by-book-pruned : all (figures-are 4_096 4_096 500_000 (totals-of booked-pruned 4) ∷ figures-are 4_224 15_776 3_500_000 (totals-of booked-pruned 3)
       ∷ figures-are 8_576 991_424 9_500_000 (totals-of booked-pruned 1) ∷ []) ≡ true
   -- a Frame and an id that was never given
-  pub no-budget : (read-totals 5 tree .number ≡ 7) × (read-totals 9 tree .number ≡ 7)
+  pub no-budget : (run (book.read-totals 5) tree .number ≡ 7) × (run (book.read-totals 9) tree .number ≡ 7)
   -- within: each within itself, its payer and so on up to the root; not the other way, and not beside
   pub up : all (within tree 7 7 ∷ within tree 4 7 ∷ within tree 3 7 ∷ within tree 1 7 ∷ within tree 4 5 ∷ within tree 3 5 ∷ within tree 1 6 ∷ within tree 1 1 ∷ []) ≡ true
   pub not-down : all (not (within tree 7 4) ∷ not (within tree 4 3) ∷ not (within tree 3 1) ∷ not (within tree 5 4) ∷ []) ≡ true
+  pub all-the-way : all (within chain 1 7 ∷ within chain 2 7 ∷ within chain 3 7 ∷ within chain 1 6 ∷ not (within chain 7 1) ∷ not (within chain 4 3) ∷ []) ≡ true
   pub not-beside : all (not (within tree 6 7) ∷ not (within tree 6 3) ∷ not (within tree 3 6) ∷ not (within tree 3 2) ∷ not (within tree 9 7) ∷ []) ≡ true
 
 pub cases-hold : Cases
@@ -142,5 +151,6 @@ cases-hold = record {
   no-budget = (refl, refl);
   up = refl;
   not-down = refl;
+  all-the-way = refl;
   not-beside = refl;
 }

@@ -3,11 +3,11 @@
 use mathlib.Core.Path.{_≡_, refl, sym, _∙_, ap}
 use mathlib.Core.Bool.{Bool, true, false, _||_, false≢true}
 use mathlib.Core.Option.{some}
-use Prim.Native.Nat.{ℕ, zero, suc, _+_, _-_, _≤_, _<_}
+use Prim.Native.Nat.{ℕ, zero, suc, _+_, _-_, _≤_}
 use native.Mathlib.Omega.{arith}
 use native.Mathlib.Numerals.{unary-clauses}
 use lib.Dec.{eqb, ltb}
-use borrow.Author.Tests.{eqb-true, eqb-false, eq-eqb, ne-eqb, ltb-true, ltb-false}
+use borrow.Author.Tests.{eqb-true, eqb-false, eq-eqb, ltb-true, ltb-false}
 use Rattle.carv_area.specs.laws.Table
 use Rattle.carv_area.specs.Table.{at}
 use Rattle.carv_area.specs.laws.Table.{test}
@@ -19,7 +19,7 @@ use Rattle.carv_objects_spec.specs.laws.Kept.{live-object}
 use Rattle.carv_objects_spec.specs.Within.{meets, within, Within, itself, by-payer}
 
 -- ids are 1 or more
-pub from-one : (r : Registry) → Sound r → (i : ℕ) (e : Entry) → at (r .rows) i ≡ some e → 1 ≤ i
+from-one : (r : Registry) → Sound r → (i : ℕ) (e : Entry) → at (r .rows) i ≡ some e → 1 ≤ i
 from-one r s i e h = test (ltb i 1)
     (λ a. let z = Table.at-below (r .rows) 1 (r .next) i (s .rising) (ltb-true i 1 a) in
     let b : _≡_ {A = ℕ} 0 1 = cc in absurd (omega arith))
@@ -44,7 +44,7 @@ pub or-left : {b : Bool} (c : Bool) → b ≡ true → (b || c) ≡ true
 or-left c h = rw h
 
 -- no payer has a higher id
-pub payer-low : (r : Registry) → Sound r → (i : ℕ) (e : Entry) → at (r .rows) i ≡ some e → e .payer ≤ i
+payer-low : (r : Registry) → Sound r → (i : ℕ) (e : Entry) → at (r .rows) i ≡ some e → e .payer ≤ i
 payer-low r s i e h = test (eqb i 1)
     (λ a. omega (arith, s .each i e h .root (eqb-true i 1 a) .1, eqb-true i 1 a))
     (λ a. omega (arith, s .each i e h .lower (eqb-false i 1 a)))
@@ -140,3 +140,10 @@ told r s b _ (by-payer i w) h =
 -- P1: "going from payer to payer up to the root"
 pub tells : (r : Registry) → Sound r → (b i : ℕ) → has r i ≡ true → (within r b i ≡ true → Within r b i) × (Within r b i → within r b i ≡ true)
 tells r s b i h = (met i r b i, λ w. told r s b i w h)
+
+-- So all objects are within the root, and what is within b has no lower id.
+pub sentence-root : (r : Registry) → Sound r → (i : ℕ) → has r i ≡ true → Within r 1 i
+sentence-root r s i h = let (e, y, O) = live-object r i s h in tells r s 1 i h .0 (within-the-root r s i i e (omega arith) (O .here))
+
+pub sentence-le : (r : Registry) → Sound r → (b i : ℕ) → has r i ≡ true → Within r b i → b ≤ i
+sentence-le r s b i h w = let (e, y, O) = live-object r i s h in within-le r s i b i e (omega arith) (O .here) (tells r s b i h .1 w)

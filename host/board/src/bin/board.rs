@@ -17,7 +17,7 @@ usage: board random COUNT SEED
        board --help
 
 random   makes COUNT random calls, on one board after the other
-short    makes every list of up to DEPTH calls out of 20 on the registry, and out of 20 on
+short    makes every list of up to DEPTH calls out of 22 on the registry, and out of 22 on
          threads, each on a new board
 damaged  damages COUNT areas and makes every kind of call on each: one that isn't sound
          must be refused with 1, without any change
@@ -28,7 +28,7 @@ COUNT and SEED are numbers below 2^64; a seed fixes the calls. DEPTH is at most 
 Exit status: 0 if nothing differs, 1 if something does, 2 if called wrongly.
 ";
 
-/// Longest short lists: 20 times as many with each call more.
+/// Longest short lists: 22 times as many with each call more.
 const DEEPEST: usize = 8;
 
 fn main() -> ExitCode {

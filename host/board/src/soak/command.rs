@@ -34,9 +34,9 @@ the command for it. A run to leave alone for the night, and one to repeat:
 The seed is printed first. Standard error tells how far the run is: a line that is written anew on
 a terminal, else a line every 30 seconds. Ctrl-C ends it without a report. The report has the calls
 by name with the numbers by which they were refused, what these mean, how far the boards went, how
-many removals found a payer whose renewal was due, and which rule of soundness the damaged areas
-broke first. On a difference it also has what differs and the shortest list of calls found that
-shows it.
+many removals found a payer whose renewal was due, whose totals were read, and which rule of
+soundness the damaged areas broke first. On a difference it also has what differs and the shortest
+list of calls found that shows it.
 
 Exit status: 0 if nothing differs, 1 if something does, 2 if called wrongly.
 "

@@ -35,8 +35,9 @@ fn fit(board: &Board, live: &[ObjectId]) {
     let mut sums = [0; 3];
     for id in live {
         let account = board.account(*id).expect("a budget");
-        let [used, free, _] = totals(board, *id);
+        let [used, free, left] = totals(board, *id);
         assert_eq!(used + free, account.limits.memory_bytes, "{id}");
+        assert!(left <= account.limits.cpu_ns, "{id}");
         sums[0] += account.memory_used_bytes;
         sums[1] += account.memory_free_bytes();
         sums[2] += account.cpu_left_ns;

@@ -115,6 +115,7 @@ fn a_board_is_printed_as_json() {
     for part in [
         "{\"board\":{\"sound\":true,\"next_id\":7,\"current\":5,\"switches\":8,\"budgets\":[{\"id\":1,\"name\":\"root\",",
         "\"memory_free_bytes\":934336,\"totals\":{\"cpu_left_ns\":9000000,\"memory_used_bytes\":38016,\"memory_free_bytes\":961984}},{\"id\":2,",
+        "\"totals\":{\"cpu_left_ns\":3000000,\"memory_used_bytes\":37888,\"memory_free_bytes\":27648}}],",
         "\"objects\":[{\"id\":4,\"kind\":\"thread\",\"payer\":2,\"charge_bytes\":33792},{\"id\":6,",
         "\"threads\":[{\"id\":0,\"state\":\"blocked\",\"wait\":{\"kind\":\"notification\",\"number\":1},\"budget\":null,",
         "\"queue\":[4],\"exits\":[{\"thread\":5,\"cause\":\"faulted\"}]}}",
