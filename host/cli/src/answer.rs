@@ -274,4 +274,18 @@ mod tests {
             assert_eq!(sums(&found), expected, "{id}");
         }
     }
+
+    /// The help on JSON lists the fields of an account and of totals as they are printed.
+    #[test]
+    fn help_lists_the_fields() {
+        let words: Vec<&str> = include_str!("help/json.txt").split_whitespace().collect();
+        let help = words.join(" ");
+        let account = account_fields(area::Account::default());
+        let totals = totals_fields(area::Totals::default());
+        for (call, fields) in [("account", &account[..]), ("totals", &totals[..])] {
+            let names: Vec<&str> = fields.iter().map(|(name, _)| *name).collect();
+            let line = format!(" {call} {}", names.join(", "));
+            assert!(help.contains(&line), "{line}");
+        }
+    }
 }

@@ -10,6 +10,7 @@ const HEADER: &str = include_str!("../../../../include/carv.h");
 const DECLARATIONS: &str = include_str!("../../src/ffi.rs");
 const REFUSALS: &str = include_str!("../../src/refusal.rs");
 const CODE: &str = include_str!("../../../../crates/carv_objects/src/refused.rt");
+const LAYOUT: &str = include_str!("../../../../docs/LAYOUT.md");
 const DEFINITIONS: &str = include_str!("../../../../crates/carv_objects_spec/specs/Refused.antt");
 
 /// The header without comments.
@@ -362,6 +363,30 @@ fn declared() -> Functions {
         }
     }
     functions
+}
+
+/// docs/LAYOUT.md lists the figures of an account and of totals in the order of the header's words.
+#[test]
+fn figures_stand_in_the_layouts_order() {
+    let header = header();
+    for (function, prefix) in [
+        ("carv_account", "CARV_ACCOUNT_"),
+        ("carv_totals", "CARV_TOTALS_"),
+    ] {
+        let figure = |name: &str| {
+            let words = name.strip_prefix(prefix)?.to_lowercase().replace('_', " ");
+            Some((constant(name), words.replace("cpu", "CPU")))
+        };
+        let mut figures: Vec<(u64, String)> =
+            named(&header).into_iter().filter_map(figure).collect();
+        figures.sort();
+        let listed: Vec<&str> = figures.iter().map(|(_, words)| words.as_str()).collect();
+        let expected = format!("| 0 to {}: {}", listed.len() - 1, listed.join(", "));
+        let head = format!("| `{function}`, ");
+        let row = LAYOUT.lines().find(|line| line.starts_with(&head));
+        let row = row.expect("a row of the C functions");
+        assert!(row.contains(&expected), "{expected}: {row}");
+    }
 }
 
 #[test]
