@@ -1,6 +1,6 @@
 -- From an entry point of the board to its C function. Assumes nothing.
 use mathlib.Core.Path.{_≡_, refl, ap}
-use mathlib.Core.Option.{some}
+use mathlib.Core.Option.{none, some}
 use mathlib.Core.List.{List}
 use Prim.Native.Nat.{ℕ}
 use native.Mathlib.Omega.{arith}
@@ -12,7 +12,7 @@ use Rattle.carv_objects_spec.specs.Reply.{of-totals}
 use Rattle.carv_objects.specs.declared.Answer as registry
 use Rattle.carv_objects.specs.declared.Answer.the-variants as of
 use Rattle.carv_objects.specs.Answer as registry-answer
-use Rattle.carv_scheduler_spec.specs.Scheduler.{Board, BoardReply, of-registry}
+use Rattle.carv_scheduler_spec.specs.Scheduler.{Board, BoardReply, Value, of-registry}
 use Rattle.carv_scheduler.specs.declared.Answer.{Answer}
 use Rattle.carv_scheduler.specs.declared.Answer.the-variants.{Done, Registry, NoSwitch, Switch, SwitchToKernel, Ended, EndedNothing, Blocked, NotBlocked, Record, Word, Cause, NoCause, Refused}
 use Rattle.carv_scheduler.specs.Answer.{number, value}
@@ -75,3 +75,32 @@ totals-written (Word n) t out h = let z : _≡_ {A = ℕ} 0 1 = cc in absurd (om
 totals-written (Cause n) t out h = let z : _≡_ {A = ℕ} 0 1 = cc in absurd (omega arith)
 totals-written NoCause t out h = let z : _≡_ {A = ℕ} 0 1 = cc in absurd (omega arith)
 totals-written (Refused n) t out h = let z : _≡_ {A = ℕ} 0 1 = cc in absurd (omega arith)
+
+some-none : {v : Value} → some v ≡ none → ⊥
+some-none h = let z : _≡_ {A = ℕ} 0 1 = cc in omega arith
+
+-- an answer without a value writes no answer word
+pub no-value-written : (x : Answer) (out : List ℕ) → value x ≡ none → reported x out ≡ out
+no-value-written (Registry of.Done) out h = refl
+no-value-written (Registry (of.Id i)) out h = absurd (some-none h)
+no-value-written (Registry of.Renewed) out h = absurd (some-none h)
+no-value-written (Registry of.NotDue) out h = absurd (some-none h)
+no-value-written (Registry of.Pays) out h = absurd (some-none h)
+no-value-written (Registry of.PaysNothing) out h = absurd (some-none h)
+no-value-written (Registry (of.AccountOf a)) out h = absurd (some-none h)
+no-value-written (Registry (of.Charge p n)) out h = absurd (some-none h)
+no-value-written (Registry (of.TotalsOf s)) out h = absurd (some-none h)
+no-value-written (Registry (of.Refused n)) out h = refl
+no-value-written Done out h = refl
+no-value-written NoSwitch out h = absurd (some-none h)
+no-value-written (Switch old new root) out h = absurd (some-none h)
+no-value-written (SwitchToKernel old new) out h = absurd (some-none h)
+no-value-written (Ended w) out h = absurd (some-none h)
+no-value-written EndedNothing out h = absurd (some-none h)
+no-value-written Blocked out h = absurd (some-none h)
+no-value-written NotBlocked out h = absurd (some-none h)
+no-value-written (Record s) out h = absurd (some-none h)
+no-value-written (Word n) out h = absurd (some-none h)
+no-value-written (Cause n) out h = absurd (some-none h)
+no-value-written NoCause out h = absurd (some-none h)
+no-value-written (Refused n) out h = refl

@@ -1,4 +1,5 @@
--- The laws of `Table`: what `at`, the order of the ids and the total are after `alter`, `erase`, `put` and a row behind the others; and a split on a test. Assumes nothing.
+-- The laws of `Table`: what `at`, the order of the ids and the total are after `alter`, `erase`, `put` and a row behind the others; alterations after one another; and a split on a
+-- test. Assumes nothing.
 use mathlib.Core.Path.{_≡_, refl, sym, _∙_, ap}
 use mathlib.Core.Bool.{Bool, true, false, cond}
 use mathlib.Core.Option.{Option, none, some}
@@ -30,6 +31,52 @@ module _ {A : Type 0} where
       test (eqb (r .id) i)
       (λ e. rw (e, ne-eqb i j h, ne-eqb (r .id) j (λ q. h (sym (eqb-true (r .id) i e) ∙ q))))
       (λ e. rw e (ap (λ (o : Option A). cond (eqb (r .id) j) (some (r .it)) o) (at-alter-other m i j f h)))
+
+  -- what an alteration leaves is read as before, under any id
+  pub at-alter-same {ℓ} : {B : Type ℓ} (h : Option A → B) (i : ℕ) (f : A → A) → ((a : A) → h (some (f a)) ≡ h (some a)) → (m : List (Row A)) (j : ℕ) → h (at (alter i f m) j) ≡ h (at m j)
+  at-alter-same h i f k [] j = refl
+  at-alter-same h i f k (r ∷ m) j = test (eqb (r .id) i)
+      (λ e. rw (e, eqb-true (r .id) i e) (test (eqb i j) (λ d. rw d (k (r .it))) (λ d. rw d)))
+      (λ e. rw e (test (eqb (r .id) j) (λ d. rw d) (λ d. rw d (at-alter-same h i f k m j))))
+
+  -- what stands under i decides what an alteration does
+  pub alter-known : (m : List (Row A)) (i : ℕ) (f g : A → A) (a : A) → at m i ≡ some a → f a ≡ g a → alter i f m ≡ alter i g m
+  alter-known [] i f g a h q = refl
+  alter-known (r ∷ m) i f g a h q = test (eqb (r .id) i)
+      (λ e. let h′ : some (r .it) ≡ some a = rw e at h in let x : r .it ≡ a = cc in rw (e, x, q))
+      (λ e. rw e (ap (_∷_ r) (alter-known m i f g a (rw e at h) q)))
+
+  pub alter-alter : (m : List (Row A)) (i : ℕ) (f g : A → A) → alter i g (alter i f m) ≡ alter i (λ a. g (f a)) m
+  alter-alter [] i f g = refl
+  alter-alter (r ∷ m) i f g = test (eqb (r .id) i)
+      (λ e. rw (e, eq-eqb i i refl))
+      (λ e. rw (e, e) (ap (_∷_ r) (alter-alter m i f g)))
+
+  pub alter-id : (m : List (Row A)) (i : ℕ) → alter i (λ a. a) m ≡ m
+  alter-id [] i = refl
+  alter-id (r ∷ m) i = test (eqb (r .id) i)
+      (λ e. rw (e, ← eqb-true (r .id) i e))
+      (λ e. rw e (ap (_∷_ r) (alter-id m i)))
+
+  -- alterations that commute under one id commute
+  pub alter-swap : (m : List (Row A)) (i j : ℕ) (f g : A → A) → ((a : A) → f (g a) ≡ g (f a)) → alter i f (alter j g m) ≡ alter j g (alter i f m)
+  alter-swap [] i j f g h = refl
+  alter-swap (r ∷ m) i j f g h = test (eqb (r .id) i)
+      (λ e. let q = eqb-true (r .id) i e in test (eqb (r .id) j)
+      (λ d. let w = eqb-true (r .id) j d in rw (e, d, ← q, ← w, eq-eqb (r .id) (r .id) refl) (rw h))
+      (λ d. rw (e, d, e, rw q at d)))
+      (λ e. test (eqb (r .id) j)
+      (λ d. let w = eqb-true (r .id) j d in rw (e, d, rw w at e))
+      (λ d. rw (e, d, e) (ap (_∷_ r) (alter-swap m i j f g h))))
+
+  -- an alteration and the removal of another id commute
+  pub erase-alter : (m : List (Row A)) (i p : ℕ) (f : A → A) → (i ≡ p → ⊥) → erase i (alter p f m) ≡ alter p f (erase i m)
+  erase-alter [] i p f h = refl
+  erase-alter (r ∷ m) i p f h = test (eqb (r .id) i)
+      (λ e. rw (ne-eqb (r .id) p (λ q. h (sym (eqb-true (r .id) i e) ∙ q)), e))
+      (λ e. test (eqb (r .id) p)
+      (λ d. rw (e, d, ne-eqb p i (λ q. h (sym q))))
+      (λ d. rw (e, d, e) (ap (_∷_ r) (erase-alter m i p f h))))
 
   pub at-snoc : (m : List (Row A)) (i j : ℕ) (a : A) → at m i ≡ none → at (m ++ (record { id = i; it = a } ∷ [])) i ≡ some a
   at-snoc [] i j a h = rw (eq-eqb i i refl)

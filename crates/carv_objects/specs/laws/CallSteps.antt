@@ -13,7 +13,7 @@ use lib.ListN as list
 use lib.Seq.{drop-cons}
 use borrow.Author.Tests.{eqb-true, eq-eqb, ne-eqb, leb-true, le-leb, lt-leb}
 use Rattle.carv_area.specs.Table.{Row, Rising, at, alter}
-use Rattle.carv_area.specs.laws.Table.{test, length-alter}
+use Rattle.carv_area.specs.laws.Table.{test, alter-known, erase-alter, length-alter}
 use Rattle.carv_area.specs.Words.{words}
 use Rattle.carv_area.specs.laws.Words.{word-below}
 use Rattle.carv_area.specs.Rows.{removeAt}
@@ -36,7 +36,7 @@ use Rattle.carv_objects_spec.specs.laws.SoundFacts.{Sound}
 use Rattle.carv_objects_spec.specs.laws.SoundLaws.{account-sound}
 use Rattle.carv_objects_spec.specs.laws.Steps.{ObjectEntry, budget-entry, at-on-account}
 use Rattle.carv_objects_spec.specs.laws.Kept as kept
-use Rattle.carv_objects_spec.specs.laws.Refines.{alter-known, erase-alter, return-blank}
+use Rattle.carv_objects_spec.specs.laws.Refines.{return-blank}
 use Rattle.carv_objects.specs.Area.{table, decode, sound-area, Serves}
 use Rattle.carv_objects.specs.laws.Rows.{no-row, row-at-is}
 use Rattle.carv_objects.specs.laws.Formed.{WellFormed, Leaves, leaves-as}

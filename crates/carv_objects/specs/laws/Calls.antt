@@ -6,7 +6,7 @@ use Prim.Native.Nat.{ℕ}
 use lib.ListN.{getD}
 use lib.Dec.{leb}
 use Rattle.carv_area.specs.Table.{Row}
-use Rattle.carv_area.specs.laws.Table.{length-alter}
+use Rattle.carv_area.specs.laws.Table.{alter-known, length-alter}
 use Rattle.carv_area.specs.Lookup.{Here}
 use Rattle.carv_budget.specs.declared.Account.{Account}
 use Rattle.carv_budget.specs.Account as account
@@ -26,7 +26,6 @@ use Rattle.carv_objects.specs.Answer.{number, value}
 use Rattle.carv_objects_spec.specs.Registry.{Registry, RegistryReply, account-of, on-account, budget, add, plain, carved as carved-entry, has-place, has-next}
 use Rattle.carv_objects_spec.specs.laws.SoundFacts.{Sound}
 use Rattle.carv_objects_spec.specs.laws.SoundLaws.{account-sound}
-use Rattle.carv_objects_spec.specs.laws.Refines.{alter-known}
 use Rattle.carv_objects.specs.Area.{decode, sound-area, Is, Serves}
 use Rattle.carv_objects.specs.laws.AreaLaws.{sound-formed, formed-sound}
 use Rattle.carv_objects.specs.laws.Rows.{no-row}

@@ -11,7 +11,7 @@ use native.Mathlib.Nat.{add-sub-cancel, sub-zero}
 use lib.Dec.{eqb, leb}
 use borrow.Author.Tests.{eqb-true, eqb-false, eq-eqb, ne-eqb, leb-true, le-leb, le-ltb}
 use Rattle.carv_area.specs.Table.{Row, at, alter, erase, put, total, Rising}
-use Rattle.carv_area.specs.laws.Table.{test, at-alter, at-alter-other, at-erase-other, rising-le, rising-alter, total-at}
+use Rattle.carv_area.specs.laws.Table.{test, at-alter, at-alter-other, alter-known, alter-alter, alter-id, alter-swap, erase-alter, at-erase-other, rising-le, rising-alter, total-at}
 use Rattle.carv_budget.specs.declared.Account.{Account}
 use Rattle.carv_budget.specs.Account as account
 use Rattle.carv_budget.specs.Rust as budget
@@ -31,54 +31,12 @@ use Rattle.carv_objects_spec.specs.laws.SoundFacts.{Sound}
 use Rattle.carv_objects_spec.specs.laws.Kept.{removal-returnable}
 use Rattle.carv_objects_spec.specs.laws.Questions as asks
 
--- Tables.
-
-module _ {A : Type 0} where
-  -- what stands under i decides what an alteration does
-  pub alter-known : (m : List (Row A)) (i : ℕ) (f g : A → A) (a : A) → at m i ≡ some a → f a ≡ g a → alter i f m ≡ alter i g m
-  alter-known [] i f g a h q = refl
-  alter-known (r ∷ m) i f g a h q = test (eqb (r .id) i)
-      (λ e. let h′ : some (r .it) ≡ some a = rw e at h in let x : r .it ≡ a = cc in rw (e, x, q))
-      (λ e. rw e (ap (_∷_ r) (alter-known m i f g a (rw e at h) q)))
-
-  pub alter-alter : (m : List (Row A)) (i : ℕ) (f g : A → A) → alter i g (alter i f m) ≡ alter i (λ a. g (f a)) m
-  alter-alter [] i f g = refl
-  alter-alter (r ∷ m) i f g = test (eqb (r .id) i)
-      (λ e. rw (e, eq-eqb i i refl))
-      (λ e. rw (e, e) (ap (_∷_ r) (alter-alter m i f g)))
-
-  pub alter-id : (m : List (Row A)) (i : ℕ) → alter i (λ a. a) m ≡ m
-  alter-id [] i = refl
-  alter-id (r ∷ m) i = test (eqb (r .id) i)
-      (λ e. rw (e, ← eqb-true (r .id) i e))
-      (λ e. rw e (ap (_∷_ r) (alter-id m i)))
-
-  -- alterations that commute under one id commute
-  pub alter-swap : (m : List (Row A)) (i j : ℕ) (f g : A → A) → ((a : A) → f (g a) ≡ g (f a)) → alter i f (alter j g m) ≡ alter j g (alter i f m)
-  alter-swap [] i j f g h = refl
-  alter-swap (r ∷ m) i j f g h = test (eqb (r .id) i)
-      (λ e. let q = eqb-true (r .id) i e in test (eqb (r .id) j)
-      (λ d. let w = eqb-true (r .id) j d in rw (e, d, ← q, ← w, eq-eqb (r .id) (r .id) refl) (rw h))
-      (λ d. rw (e, d, e, rw q at d)))
-      (λ e. test (eqb (r .id) j)
-      (λ d. let w = eqb-true (r .id) j d in rw (e, d, rw w at e))
-      (λ d. rw (e, d, e) (ap (_∷_ r) (alter-swap m i j f g h))))
-
-  -- an alteration and the removal of another id commute
-  pub erase-alter : (m : List (Row A)) (i p : ℕ) (f : A → A) → (i ≡ p → ⊥) → erase i (alter p f m) ≡ alter p f (erase i m)
-  erase-alter [] i p f h = refl
-  erase-alter (r ∷ m) i p f h = test (eqb (r .id) i)
-      (λ e. rw (ne-eqb (r .id) p (λ q. h (sym (eqb-true (r .id) i e) ∙ q)), e))
-      (λ e. test (eqb (r .id) p)
-      (λ d. rw (e, d, ne-eqb p i (λ q. h (sym q))))
-      (λ d. rw (e, d, e) (ap (_∷_ r) (erase-alter m i p f h))))
-
-  -- a row after the last
-  put-last : (m : List (Row A)) (l n i : ℕ) (a : A) → Rising l n m → n ≤ i → put i a m ≡ m ++ (record { id = i; it = a } ∷ [])
-  put-last [] l n i a u h = refl
-  put-last (r ∷ m) l n i a u h =
-      let k = rising-le m (suc (r .id)) n (u .1) in
-      rw (ne-eqb (r .id) i (λ q. omega arith), le-ltb i (r .id) (omega arith)) (ap (_∷_ r) (put-last m (suc (r .id)) n i a (u .1) h))
+-- a row after the last
+put-last : {A : Type 0} (m : List (Row A)) (l n i : ℕ) (a : A) → Rising l n m → n ≤ i → put i a m ≡ m ++ (record { id = i; it = a } ∷ [])
+put-last [] l n i a u h = refl
+put-last (r ∷ m) l n i a u h =
+    let k = rising-le m (suc (r .id)) n (u .1) in
+    rw (ne-eqb (r .id) i (λ q. omega arith), le-ltb i (r .id) (omega arith)) (ap (_∷_ r) (put-last m (suc (r .id)) n i a (u .1) h))
 
 -- Budgets. `write` is what the Rust leaves behind `budget_mut`.
 

@@ -11,7 +11,7 @@ use Rattle.carv_area.specs.Table.{Row, at, alter, put}
 use Rattle.carv_area.specs.Lookup.{Here, Located}
 use Rattle.carv_area.specs.declared.Found.{Found}
 use Rattle.carv_area.specs.declared.Found.the-variants.{At, Nothing}
-use Rattle.carv_objects_spec.specs.laws.Refines.{alter-known}
+use Rattle.carv_area.specs.laws.Table.{alter-known}
 use Rattle.carv_scheduler_spec.specs.declared.Context.{Context}
 use Rattle.carv_scheduler_spec.specs.declared.Thread.{Thread}
 use Rattle.carv_scheduler_spec.specs.Scheduler.{Board, idle, inactive, ready, running, blocked, is, in-spaces, found, thread, has, become, started, join}

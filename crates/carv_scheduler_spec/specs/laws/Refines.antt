@@ -11,7 +11,7 @@ use lib.Dec.{eqb, ltb, leb}
 use lib.ListN.{length}
 use borrow.Author.Tests.{eqb-true, eqb-false, eq-eqb, leb-true, leb-false, le-leb}
 use Rattle.carv_area.specs.Table.{Row, at, alter, erase, pick}
-use Rattle.carv_area.specs.laws.Table.{test, at-alter, at-alter-other}
+use Rattle.carv_area.specs.laws.Table.{test, at-alter, at-alter-other, alter-known}
 use Rattle.carv_budget.specs.declared.Account.{Account}
 use Rattle.carv_budget.specs.Account as account
 use Rattle.carv_budget.specs.laws.Account.{first, renew-twice}
@@ -23,7 +23,6 @@ use Rattle.carv_objects_spec.specs.Registry as registry
 use Rattle.carv_objects_spec.specs.Registry.{Registry, or-missing, entry, is-budget, account-of, on-account}
 use Rattle.carv_objects_spec.specs.Rust as objects
 use Rattle.carv_objects_spec.specs.laws.Refines as objects-refines
-use Rattle.carv_objects_spec.specs.laws.Refines.{alter-known}
 use Rattle.carv_scheduler_spec.specs.declared.BudgetId.{BudgetId}
 use Rattle.carv_scheduler_spec.specs.declared.Context.{Context}
 use Rattle.carv_scheduler_spec.specs.declared.Results.{Results}
