@@ -243,11 +243,18 @@ uint64_t carv_insert(uint8_t *area, size_t area_bytes, uint64_t kind, uint64_t p
 uint64_t carv_create_budget(uint8_t *area, size_t area_bytes, uint64_t parent, uint64_t cpu,
                             uint64_t memory, uint64_t time, uint64_t *out, size_t out_words);
 
-/* Raises an object's charge and what its payer has used. Refused with 7, 12. */
+/*
+ * Raises an object's charge and what its payer has used. Two charges whose sum is below 2^64 are
+ * both accepted exactly when one charge of the sum is, and then leave the same bytes. Refused with
+ * 7, 12.
+ */
 uint64_t carv_charge_more(uint8_t *area, size_t area_bytes, uint64_t id, uint64_t bytes,
                           uint64_t *out, size_t out_words);
 
-/* Lowers an object's charge and what its payer has used. Refused with 7, 11. */
+/*
+ * Lowers an object's charge and what its payer has used. Right after an accepted charge of as many
+ * bytes, it restores the area. Refused with 7, 11.
+ */
 uint64_t carv_uncharge(uint8_t *area, size_t area_bytes, uint64_t id, uint64_t bytes, uint64_t *out,
                        size_t out_words);
 

@@ -335,6 +335,82 @@ static void charges(void) {
     ROOT_IS(30000000, 4000000, 6000000, 628, 0);
 }
 
+/* Keeps a copy of the board, puts it back, and compares it with the board byte by byte. */
+static void keep(uint8_t *copy) {
+    memcpy(copy, area, CARV_AREA_BYTES);
+}
+
+static void put_back(const uint8_t *copy) {
+    memcpy(area, copy, CARV_AREA_BYTES);
+}
+
+static bool is_same(const uint8_t *copy) {
+    return memcmp(area, copy, CARV_AREA_BYTES) == 0;
+}
+
+/*
+ * Memory booked in parts and at once. The root pays for the Frame 2 and the budget 3, which has
+ * 8192 bytes and pays for the Frame 4: 4096 are free for its charges.
+ */
+static void charges_in_parts(void) {
+    static uint8_t before[CARV_AREA_BYTES];
+    static uint8_t after[CARV_AREA_BYTES];
+    open_board(1000000);
+    ANSWER(carv_create(AREA, CARV_KIND_FRAME, 1, true, OUT), 2);
+    ANSWER(carv_create_budget(AREA, 1, 0, 8192, 0, OUT), 3);
+    ANSWER(carv_create(AREA, CARV_KIND_FRAME, 3, true, OUT), 4);
+    keep(before);
+
+    /* Two charges leave what one of their sum leaves, also if a third is of nothing. */
+    DONE(carv_charge_more(AREA, 4, 1000, OUT));
+    DONE(carv_charge_more(AREA, 4, 3096, OUT));
+    DONE(carv_charge_more(AREA, 4, 0, OUT));
+    keep(after);
+    put_back(before);
+    DONE(carv_charge_more(AREA, 4, 4096, OUT));
+    CHECK(is_same(after) && !is_same(before));
+
+    /* The uncharge restores the board. */
+    DONE(carv_uncharge(AREA, 4, 4096, OUT));
+    CHECK(is_same(before));
+
+    /* One byte more is refused at once; in parts, the first passes and stays. */
+    REFUSED(CARV_REFUSED_LIMIT, carv_charge_more(AREA, 4, 4097, OUT));
+    DONE(carv_charge_more(AREA, 4, 1000, OUT));
+    keep(after);
+    REFUSED(CARV_REFUSED_LIMIT, carv_charge_more(AREA, 4, 3097, OUT));
+    CHECK(is_same(after));
+
+    /* Objects of different payers, the budget 3 and the root, in either order. */
+    put_back(before);
+    DONE(carv_charge_more(AREA, 4, 4096, OUT));
+    DONE(carv_charge_more(AREA, 2, 500, OUT));
+    REFUSED(CARV_REFUSED_LIMIT, carv_charge_more(AREA, 4, 1, OUT));
+    keep(after);
+    put_back(before);
+    DONE(carv_charge_more(AREA, 2, 500, OUT));
+    DONE(carv_charge_more(AREA, 4, 4096, OUT));
+    CHECK(is_same(after));
+
+    /* Of one payer, which can't cover both, the first passes. The root pays for the budget 3. */
+    put_back(before);
+    DONE(carv_charge_more(AREA, 2, 900000, OUT));
+    REFUSED(CARV_REFUSED_LIMIT, carv_charge_more(AREA, 3, 900000, OUT));
+    put_back(before);
+    DONE(carv_charge_more(AREA, 3, 900000, OUT));
+    REFUSED(CARV_REFUSED_LIMIT, carv_charge_more(AREA, 2, 900000, OUT));
+
+    /* A sum of 2^64 - 1 is accepted where all of it is free, and one of 2^64 nowhere. */
+    open_board(UINT64_MAX);
+    DONE(carv_charge_more(AREA, 1, UINT64_C(1) << 63, OUT));
+    REFUSED(CARV_REFUSED_LIMIT, carv_charge_more(AREA, 1, UINT64_C(1) << 63, OUT));
+    DONE(carv_charge_more(AREA, 1, (UINT64_C(1) << 63) - 1, OUT));
+    keep(after);
+    open_board(UINT64_MAX);
+    DONE(carv_charge_more(AREA, 1, UINT64_MAX, OUT));
+    CHECK(is_same(after));
+}
+
 /* Kinds, backing, and the order of these questions; goes on from there. */
 static void kinds(void) {
     REFUSED(CARV_REFUSED_CODE, carv_create(AREA, 0, 1, true, OUT));
@@ -669,6 +745,7 @@ int main(void) {
     charges();
     kinds();
     carvings();
+    charges_in_parts();
     removals();
     totals();
     full_objects();

@@ -3,11 +3,12 @@
 //! [`port`] calls the port's library through its C functions, or with the feature `mock` a model in
 //! its place. [`pair`] makes each call on both and compares the answer and every byte of the state. What the
 //! port refuses beyond the Rust (the numbers marked + in document 01) is decided in
-//! [`carv_compare::board::reference`].
+//! [`carv_compare::board::reference`]. [`charges`] runs document 02's laws of charges on the port.
 
 #![forbid(unsafe_code)]
 
 pub mod bench;
+pub mod charges;
 pub mod damage;
 pub mod damaged;
 pub mod edit;

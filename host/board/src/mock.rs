@@ -1,6 +1,7 @@
 //! A small model in place of the port's library, to test the comparison: mistakes can be planted
 //! in it.
 
+mod charges;
 mod mistake;
 mod registry;
 mod sound;

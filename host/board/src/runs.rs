@@ -42,7 +42,7 @@ impl RandomBoards {
         Ok((step, number))
     }
 
-    /// A few steps to be made before the next area is damaged.
+    /// A few steps to be made before the next area is taken.
     pub fn few(&mut self) -> u64 {
         self.walk.draw().random.below(16) + 1
     }

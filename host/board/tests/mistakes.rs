@@ -1,5 +1,6 @@
 //! The comparison finds mistakes: each is planted in the mock in turn.
 
+use carv_board_host::charges::{self, CASES, Law};
 use carv_board_host::mock::{Mistake, plant};
 use carv_board_host::tally::REMOVALS;
 use carv_board_host::{damaged, runs, short, sound};
@@ -294,6 +295,165 @@ fn damaged_areas_find_mistakes_in_totals() {
         let found = with(mistake, || damaged::damaged(8_000, SEED));
         let why = found.expect_err("a difference");
         assert!(why.starts_with("area "), "{mistake:?}: {why}");
+    }
+}
+
+#[test]
+fn laws_of_charges_meet_every_case() {
+    let report = charges::charges(2_000, SEED).expect("no difference");
+    for (case, name) in CASES {
+        let found = report.case(case);
+        assert!(found > 10, "{name}: {found}");
+    }
+    for law in Law::ALL {
+        let [accepted, refused, unsound] = report.law(law);
+        let is_met = accepted > 100 || law == Law::TooLarge && accepted == 0;
+        let found = format!("{law:?}: {accepted}, {refused}, {unsound}");
+        assert!(is_met && refused > 100 && unsound > 100, "{found}");
+    }
+}
+
+/// A mistake, the law that finds it, and what it says.
+type Broken = (Mistake, Law, &'static str);
+
+/// Found by what the law compares. Each call is also held to the rule, but that is told last.
+const CHARGES_BREAK_LAWS: [Broken; 20] = [
+    (
+        Mistake::ChargeRoundsUpWhereThereIsOne,
+        Law::Split,
+        "a, then b, against a + b: the area differs",
+    ),
+    (
+        Mistake::SecondChargeInARowRefused,
+        Law::Split,
+        "a, then b: refused; a + b: accepted",
+    ),
+    (
+        Mistake::ChargeAsksThePayersPayerToo,
+        Law::Split,
+        "a, then b: accepted; a + b: refused",
+    ),
+    (
+        Mistake::ChargeOf0RefusedWhereNothingIsFree,
+        Law::Split,
+        "a, then b: refused; a + b: accepted",
+    ),
+    (
+        Mistake::RefusedChargeBooksWhatIsFree,
+        Law::Split,
+        "a + b, refused, against before: the area differs",
+    ),
+    (
+        Mistake::RefusedChargeTakesTheLastBack,
+        Law::Split,
+        "a, then b, refused, against a alone: the area differs",
+    ),
+    (
+        Mistake::ChargeOfABudgetBookedOnItself,
+        Law::Split,
+        "b is refused with 1, not 12",
+    ),
+    (
+        Mistake::FourthChargeInARowRefused,
+        Law::List,
+        "the list: refused; the sum: accepted",
+    ),
+    (
+        Mistake::ChargeRoundsUpWhereThereIsOne,
+        Law::List,
+        "the list, against the sum: the area differs",
+    ),
+    (
+        Mistake::ChargeOf0RefusedWhereNothingIsFree,
+        Law::List,
+        "the list in another order: refused; the sum: accepted",
+    ),
+    (Mistake::ChargesWrap, Law::TooLarge, "accepted throughout"),
+    (
+        Mistake::UnchargeLeavesAByteWithThePayer,
+        Law::Undo,
+        "both, against before: the area differs",
+    ),
+    (
+        Mistake::UnchargeKeepsTheEntry,
+        Law::Undo,
+        "both, against before: the area differs",
+    ),
+    (
+        Mistake::ChargeForgetsReservations,
+        Law::Undo,
+        "the uncharge is refused with 1",
+    ),
+    (
+        Mistake::ChargeAsksThePayersPayerToo,
+        Law::TwoPayers,
+        " answers 0 if it is made first, 12 if second",
+    ),
+    (
+        Mistake::ChargeBookedOnThePayersPayerToo,
+        Law::TwoPayers,
+        " answers 0 if it is made first, 1 if second",
+    ),
+    (
+        Mistake::ChargeBookedOnTheLastPayer,
+        Law::TwoPayers,
+        " answers 0 if it is made first, 12 if second",
+    ),
+    (
+        Mistake::ChargeRoundsUpBehindAnother,
+        Law::TwoPayers,
+        "b, then a, against a, then b: the area differs",
+    ),
+    (
+        Mistake::ChargeRoundsUpBehindAnother,
+        Law::OnePayer,
+        "b, then a, against a, then b: the area differs",
+    ),
+    (
+        Mistake::ChargeOf0RefusedWhereNothingIsFree,
+        Law::OnePayer,
+        "each passes if it is made first; made second, ",
+    ),
+];
+
+/// In one of these runs at least, the law tells of it, not the rule or the boards beside the Rust.
+#[test]
+fn laws_of_charges_find_mistakes() {
+    for (mistake, law, part) in CHARGES_BREAK_LAWS {
+        let mut runs = (1..=40).map(|seed| with(mistake, || charges::only(&[law], 400, seed)));
+        let is_found = runs.any(|run| run.is_err_and(|why| why.contains(part)));
+        assert!(is_found, "{mistake:?} does not break {law:?}: {part}");
+    }
+}
+
+/// A call that breaks no law is held to the rule, on damaged areas too.
+#[test]
+fn charges_are_held_to_the_rule() {
+    for (mistake, parts) in [
+        (Mistake::EveryChargeRefused, ["the number is 12, not 0", ""]),
+        (
+            Mistake::UnchargeAboveCharge,
+            ["): the number is 0, not 11", ""],
+        ),
+        (
+            Mistake::ChargeRefusedWhereAStartIsNoMultiple,
+            ["the number is 12, not 0", "\nrule broken: none"],
+        ),
+        (
+            Mistake::CausesNotAsked,
+            [
+                "the number is 0, not 1",
+                "\nrule broken: every cause is listed",
+            ],
+        ),
+    ] {
+        let mut runs = (1..=10).map(|seed| with(mistake, || charges::charges(2_000, seed)));
+        let is_found = runs.any(|run| {
+            run.is_err_and(|why| {
+                why.starts_with("area ") && parts.iter().all(|part| why.contains(part))
+            })
+        });
+        assert!(is_found, "{mistake:?} was not found");
     }
 }
 

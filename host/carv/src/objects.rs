@@ -87,6 +87,10 @@ impl Board {
 
     /// Raises an object's charge, and what its payer has used.
     ///
+    /// Two charges of an object whose sum is below 2^64 are both accepted exactly when one charge of
+    /// the sum is, and then leave the same board; where only the first is accepted, it stays. Charges
+    /// on objects of different payers give the same answers and board in either order.
+    ///
     /// Refused with [`Refusal::Missing`] and [`Limit`](Refusal::Limit).
     ///
     /// ```
@@ -94,7 +98,12 @@ impl Board {
     ///
     /// let mut board = Board::open(Limits { cpu_ns: 10_000_000, memory_bytes: 8_192 })?;
     /// let frame = board.create(Kind::Frame, ObjectId::ROOT, Backing::There)?;
+    /// let mut in_parts = board.clone();
+    /// in_parts.charge_more(frame, 1_000)?;
+    /// in_parts.charge_more(frame, 3_096)?;
+    ///
     /// board.charge_more(frame, 4_096)?;
+    /// assert!(board == in_parts);
     /// assert_eq!(board.charge_more(frame, 1), Err(Refusal::Limit));
     /// # Ok::<(), Refusal>(())
     /// ```
@@ -104,6 +113,8 @@ impl Board {
     }
 
     /// Lowers an object's charge, and what its payer has used.
+    ///
+    /// Right after an accepted charge of as many bytes, it restores the board.
     ///
     /// Refused with [`Refusal::Missing`] and [`Charge`](Refusal::Charge).
     ///
@@ -115,6 +126,11 @@ impl Board {
     /// assert_eq!(board.uncharge(frame, 4_097), Err(Refusal::Charge));
     /// board.uncharge(frame, 4_096)?;
     /// assert_eq!(board.charge_of(frame)?.bytes, 0);
+    ///
+    /// let before = board.clone();
+    /// board.charge_more(frame, 1_000)?;
+    /// board.uncharge(frame, 1_000)?;
+    /// assert!(board == before);
     /// # Ok::<(), Refusal>(())
     /// ```
     pub fn uncharge(&mut self, id: ObjectId, bytes: u64) -> Result<(), Refusal> {

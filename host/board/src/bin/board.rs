@@ -1,7 +1,7 @@
 //! Compares the port's board with the Rust's.
 
 use carv_board_host::tally::Tally;
-use carv_board_host::{damaged, runs, short, soak};
+use carv_board_host::{charges, damaged, runs, short, soak};
 use carv_compare::command::{self, Done, numbers, say};
 use std::io;
 use std::process::ExitCode;
@@ -13,6 +13,7 @@ the answer words, the register image and every byte of the state.
 usage: board random COUNT SEED
        board short DEPTH
        board damaged COUNT SEED
+       board charges COUNT SEED
        board soak [OPTIONS]
        board --help
 
@@ -21,6 +22,8 @@ short    makes every list of up to DEPTH calls out of 22 on the registry, and ou
          threads, each on a new board
 damaged  damages COUNT areas and makes every kind of call on each: one that isn't sound
          must be refused with 1, without any change
+charges  runs laws of charges on COUNT areas, some of them damaged, and compares copies of each:
+         charged in parts and at once, charged and uncharged, charged in either order
 soak     random calls and damaged areas by turns, for a time or a count, with a report:
          see board soak --help
 
@@ -48,9 +51,10 @@ fn compare(arguments: &[&str]) -> Done {
         ["random", count, seed] => random(numbers(count, seed)?),
         ["short", depth] => all_short(depth_of(depth)?),
         ["damaged", count, seed] => damage(numbers(count, seed)?),
+        ["charges", count, seed] => laws_of_charges(numbers(count, seed)?),
         _ => {
-            let expected = "expected `random`, `short` or `damaged` with their numbers, or `soak`";
-            return Err(expected.to_string());
+            let modes = "`random`, `short`, `damaged` or `charges` with their numbers, or `soak`";
+            return Err(format!("expected {modes}"));
         }
     };
     Ok(done.map(say))
@@ -77,6 +81,12 @@ fn all_short(depth: usize) -> Result<String, String> {
 
 fn damage((count, seed): (u64, u64)) -> Result<String, String> {
     damaged::damaged(count, seed)
+        .map(|report| format!("{report}, 0 differences"))
+        .map_err(|why| format!("seed {seed}, {why}"))
+}
+
+fn laws_of_charges((count, seed): (u64, u64)) -> Result<String, String> {
+    charges::charges(count, seed)
         .map(|report| format!("{report}, 0 differences"))
         .map_err(|why| format!("seed {seed}, {why}"))
 }

@@ -31,6 +31,22 @@ pub enum Mistake {
     IdsGivenAgain,
     UnchargeAboveCharge,
     RootPaysForItself,
+    ChargeRoundsUpWhereThereIsOne,
+    ChargeRoundsUpBehindAnother,
+    ChargeForgetsReservations,
+    ChargeOf0RefusedWhereNothingIsFree,
+    ChargeAsksThePayersPayerToo,
+    ChargeBookedOnThePayersPayerToo,
+    ChargeBookedOnTheLastPayer,
+    ChargeOfABudgetBookedOnItself,
+    ChargesWrap,
+    ChargeRefusedWhereAStartIsNoMultiple,
+    RefusedChargeBooksWhatIsFree,
+    RefusedChargeTakesTheLastBack,
+    SecondChargeInARowRefused,
+    FourthChargeInARowRefused,
+    UnchargeLeavesAByteWithThePayer,
+    UnchargeKeepsTheEntry,
     TotalsLeaveTheBudgetOut,
     TotalsOfChildrenAlone,
     TotalsOfEveryBudget,
@@ -121,13 +137,35 @@ pub enum Mistake {
     CausesNotAsked,
 }
 
+/// An accepted charge, for mistakes that remember it from one call to the next.
+#[derive(Clone, Copy, Debug)]
+pub(super) struct LastCharge {
+    pub id: u64,
+    pub payer: u64,
+    pub bytes: u64,
+    /// The charge that the object has then.
+    pub charge: u64,
+    /// How many charges of this object it is the last of.
+    pub in_a_row: u64,
+}
+
 thread_local! {
     static PLANTED: Cell<Option<Mistake>> = const { Cell::new(None) };
+    static LAST_CHARGE: Cell<Option<LastCharge>> = const { Cell::new(None) };
 }
 
 /// Plants a mistake for this thread, or none.
 pub fn plant(mistake: Option<Mistake>) {
     PLANTED.set(mistake);
+    LAST_CHARGE.set(None);
+}
+
+pub(super) fn last_charge() -> Option<LastCharge> {
+    LAST_CHARGE.get()
+}
+
+pub(super) fn remember(charge: LastCharge) {
+    LAST_CHARGE.set(Some(charge));
 }
 
 pub(super) fn planted(mistake: Mistake) -> bool {

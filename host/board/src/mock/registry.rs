@@ -90,28 +90,6 @@ impl Model {
         self.add(BUDGET, parent, 128, child)
     }
 
-    pub(super) fn charge_more(&mut self, id: u64, bytes: u64) -> Done {
-        let payer = self.object(id)?.payer;
-        let account = self.budget(payer)?;
-        ask(12, covers(account, bytes))?;
-        account.memory_used += bytes;
-        self.object(id)?.charge += bytes;
-        Ok(vec![])
-    }
-
-    pub(super) fn uncharge(&mut self, id: u64, bytes: u64) -> Done {
-        let row = self.object(id)?;
-        let bytes = match planted(Mistake::UnchargeAboveCharge) {
-            true => bytes.min(row.charge),
-            false => bytes,
-        };
-        ask(11, bytes <= row.charge)?;
-        row.charge -= bytes;
-        let payer = row.payer;
-        self.budget(payer)?.memory_used -= bytes;
-        Ok(vec![])
-    }
-
     pub(super) fn remove(&mut self, id: u64, time: u64) -> Done {
         let row = *self.object(id)?;
         let is_budget = row.kind == BUDGET;
@@ -262,7 +240,7 @@ impl Model {
     }
 }
 
-fn covers(account: &Account, bytes: u64) -> bool {
+pub(super) fn covers(account: &Account, bytes: u64) -> bool {
     bytes <= account.memory_free() && !planted(Mistake::EveryChargeRefused)
 }
 
