@@ -23,6 +23,11 @@ Charges i [] a (e ∷ es) = ⊥
 Charges i (n ∷ ns) a [] = ⊥
 Charges i (n ∷ ns) a (e ∷ es) = Makes (objects.charge-more i n) a e × Charges i ns (e .left) es
 
+-- each of these calls was lent what it needs, and left bytes
+abbrev pub EachLent : List Made → Type 0
+EachLent [] = Unit {0}
+EachLent (e ∷ es) = (lent e ≡ true) × Bytes (e .left) × EachLent es
+
 -- are all of these calls accepted?
 abbrev pub all-accepted : List Made → Bool
 all-accepted [] = true

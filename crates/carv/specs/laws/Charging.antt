@@ -3,7 +3,7 @@
 use mathlib.Core.Path.{_≡_, refl, sym, ap, subst, _∙_}
 use mathlib.Core.Bool.{Bool, true, false, cond, _&&_, false≢true}
 use mathlib.Core.Option.{Option, none, some}
-use mathlib.Core.List.{List, [], _∷_}
+use mathlib.Core.List.{List, [], _∷_, map}
 use Prim.Native.Nat.{ℕ, suc, _+_, _^_, _≤_, _<_}
 use native.Mathlib.Omega.{arith}
 use lib.Dec.{eqb, leb}
@@ -12,16 +12,18 @@ use borrow.Author.Tests.{eqb-true, eqb-false, eq-eqb, ne-eqb}
 use Rattle.carv_area.specs.Table.{Row, at}
 use Rattle.carv_area.specs.laws.Table.{test}
 use Rattle.carv_budget.specs.Account.{free}
-use Rattle.carv_budget.specs.laws.Account.{first, second}
 use Rattle.carv_objects_spec.specs.declared.Entry.{Entry}
-use Rattle.carv_objects_spec.specs.Reply.{Reply, Value}
+use Rattle.carv_objects_spec.specs.Reply.{Value}
 use Rattle.carv_objects_spec.specs.Registry.{Registry, RegistryReply, or-missing, entry, has, payer-of, account-of}
 use Rattle.carv_objects_spec.specs.Book as objects
 use Rattle.carv_objects_spec.specs.Runs as registry-runs
+use Rattle.carv_objects_spec.specs.Sound.{sound}
 use Rattle.carv_objects_spec.specs.Charging as charges
 use Rattle.carv_objects_spec.specs.Charging.{passes, left-by, all-pass, left-by-all, sum, Reordered, payers-differ}
 use Rattle.carv_objects_spec.specs.laws.Asked.{asked}
 use Rattle.carv_objects_spec.specs.laws.Charging as charging
+use Rattle.carv_objects_spec.specs.laws.Questions as asks
+use Rattle.carv_objects_spec.specs.laws.SoundLaws.{sound-shown}
 use Rattle.carv_objects.specs.laws.Rows.{no-row}
 use Rattle.carv_objects.specs.laws.AreaExact.{part-bytes}
 use Rattle.carv_objects.specs.laws.Calls as registry-calls
@@ -32,13 +34,33 @@ use Rattle.carv_scheduler_spec.specs.Runs.{run}
 use Rattle.carv_scheduler.specs.Area.{decode, sound-area, registry-part, Is}
 use Rattle.carv_scheduler.specs.laws.AreaLaws.{area-sound, area-formed}
 use Rattle.carv_scheduler.specs.laws.AreaExact.{exact}
-use Rattle.carv.specs.C.{Made}
-use Rattle.carv.specs.Demands.{Bytes, last, GivenAs}
-use Rattle.carv.specs.Charging.{Makes, Charges, all-accepted, first-refusal}
+use Rattle.carv.specs.C.{Exported, Made, plain}
+use Rattle.carv.specs.Demands.{Ran, last, GivenAs, Bytes}
+use Rattle.carv.specs.Charging.{Makes, Charges, EachLent, all-accepted, first-refusal}
 use Rattle.carv.specs.laws.Reporting.{no-value-written}
 use Rattle.carv.specs.laws.Demand1.{demand1}
 
+-- What is asked of a call here is what its C function gives: its `ensures`, on an area of bytes and with 20 answer words. And of a list of charges, that the calls are these and
+-- each is made on what the last one left.
+
+pub call-made : (c : objects.Call) (a out : List ℕ) (n : ℕ) (a′ out′ : List ℕ) → eqb (length out) 20 ≡ true → Exported (on-objects c) a out n a′ out′ → Bytes a′
+    → Makes c a (record { call = on-objects c; words = out; image = []; returned = n; left = a′; words′ = out′; image′ = [] })
+call-made c a out n a′ out′ words ensured bytes = record { call = refl; is-lent = rw words; ensures = plain refl ensured refl; bytes = bytes }
+
+pub charges-made : (i : ℕ) (ns a : List ℕ) (es : List Made) → Ran es a → map (λ (e : Made). e .call) es ≡ map (λ (n : ℕ). on-objects (objects.charge-more i n)) ns → EachLent es
+    → Charges i ns a es
+charges-made i [] a [] ran same each = tt
+charges-made i [] a (e ∷ es) ran same each = let z : _≡_ {A = ℕ} 0 1 = cc in absurd (omega arith)
+charges-made i (n ∷ ns) a [] ran same each = let z : _≡_ {A = ℕ} 0 1 = cc in absurd (omega arith)
+charges-made i (n ∷ ns) a (e ∷ es) ran same each =
+    let one : e .call ≡ on-objects (objects.charge-more i n) = cc in
+    let rest : map (λ (e : Made). e .call) es ≡ map (λ (n : ℕ). on-objects (objects.charge-more i n)) ns = cc in
+    (record { call = one; is-lent = each .0; ensures = ran .0; bytes = each .1 }, charges-made i ns (e .left) es (ran .1) rest (each .2))
+
 -- What a call of the registry answers and leaves.
+
+registry-sound : (a : List ℕ) → sound-area a ≡ true → sound (decode a .registry) ≡ true
+registry-sound a s = sound-shown (decode a .registry) (area-sound a s .registry)
 
 abbrev reply : objects.Call → List ℕ → RegistryReply
 reply c a = registry-runs.run c (decode a .registry)
@@ -106,15 +128,33 @@ module _ (i n : ℕ) (a : List ℕ) (e : Made) where
   pub uncharge-writes-no-word : Makes (objects.uncharge i n) a e → e .words′ ≡ e .words
   uncharge-writes-no-word M = silent M (asked (λ z. z .value ≡ none) (has r i) refl λ h. asked (λ z. z .value ≡ none) (leb n (entry r i .charge)) refl λ k. refl)
 
+-- One charge, of 0 or on a missing object, on a sound area: 0 and 7, and every byte stays.
+
+module _ (i : ℕ) (a : List ℕ) (e : Made) (bytes : Bytes a) (s : sound-area a ≡ true) where
+  unmoved : (n m : ℕ) → Makes (objects.charge-more i n) a e → (answered : reply (objects.charge-more i n) a .number ≡ m) → left-by i n (decode a .registry) ≡ decode a .registry
+      → (e .returned ≡ m) × (e .left ≡ a)
+  unmoved n m E answered stays = (
+    answers E s ∙ answered,
+    same-bytes (decode a) (left-by i n (decode a .registry)) (decode a .registry) (leaves E s) (itself s) stays (E .bytes) bytes,
+  )
+
+  -- whatever is free
+  pub nothing : Makes (objects.charge-more i 0) a e → has (decode a .registry) i ≡ true → (e .returned ≡ 0) × (e .left ≡ a)
+  nothing E h = let z = charging.nothing i (decode a .registry) h in unmoved 0 0 E (ap (λ (z : RegistryReply). z .number) z) (ap (λ (z : RegistryReply). z .after) z)
+
+  -- whatever the amount
+  pub missing : (n : ℕ) → Makes (objects.charge-more i n) a e → has (decode a .registry) i ≡ false → (e .returned ≡ 7) × (e .left ≡ a)
+  missing n E h = let z = asks.charge-more-missing i n (decode a .registry) h in unmoved n 7 E (ap (λ (z : RegistryReply). z .number) z) (ap (λ (z : RegistryReply). z .after) z)
+
 -- Two charges on one object, e of x and then f of y, against one of their sum, g.
 
 module _ (i x y : ℕ) (a : List ℕ) (e g : Made) (E : Makes (objects.charge-more i x) a e) (G : Makes (objects.charge-more i (x + y)) a g) where
-  -- where a fails, a + b fails with its number, and both leave every byte
+  -- where x fails, x + y fails with its number, and both leave every byte
   pub first-fails : Bytes a → (e .returned ≡ 0 → ⊥) → (g .returned ≡ e .returned) × (e .left ≡ a) × (g .left ≡ a)
   first-fails bytes q = test (sound-area a)
       (λ s. let r = decode a .registry in
       let k : passes i x r ≡ false = ne-eqb _ 0 (λ z. q (answers E s ∙ z)) in
-      let alike = charging.first-fails i r (area-sound a s .registry) x y k in
+      let alike = charging.first-fails i r x y k in
       let stays-a : left-by i x r ≡ r = charging.refused-stays i x r k in (
         answers G s ∙ ap (λ (z : RegistryReply). z .number) alike ∙ sym (answers E s),
         same-bytes (decode a) (left-by i x r) r (leaves E s) (itself s) stays-a (E .bytes) bytes,
@@ -128,14 +168,14 @@ module _ (i x y : ℕ) (a : List ℕ) (e f g : Made) (E : Makes (objects.charge-
   pub added : (eqb (e .returned) 0 && eqb (f .returned) 0) ≡ eqb (g .returned) 0
   added = test (sound-area a)
       (λ s. ap (λ (m : ℕ). eqb m 0 && eqb (f .returned) 0) (answers E s) ∙ ap (λ (m : ℕ). passes i x (decode a .registry) && eqb m 0) (answers-next E F s)
-      ∙ charging.added i (decode a .registry) (area-sound a s .registry) x y ∙ sym (ap (λ (m : ℕ). eqb m 0) (answers G s)))
+      ∙ charging.added i (decode a .registry) (registry-sound a s) x y ∙ sym (ap (λ (m : ℕ). eqb m 0) (answers G s)))
       (λ s. ap (λ (z : Bool). z && eqb (f .returned) 0) (refused-no E s) ∙ sym (refused-no G s))
 
-  -- where a passes, b is answered with the number of a + b
+  -- where x passes, y is answered with the number of x + y
   pub numbered : e .returned ≡ 0 → f .returned ≡ g .returned
   numbered p =
       let s = accepted-sound E p in
-      answers-next E F s ∙ charging.numbered i (decode a .registry) (area-sound a s .registry) x y (eq-eqb _ 0 (sym (answers E s) ∙ p)) ∙ sym (answers G s)
+      answers-next E F s ∙ charging.numbered i (decode a .registry) (registry-sound a s) x y (eq-eqb _ 0 (sym (answers E s) ∙ p)) ∙ sym (answers G s)
 
   -- ".. and leaves the same state", every byte of it
   pub same : g .returned ≡ 0 → f .left ≡ g .left
@@ -143,14 +183,14 @@ module _ (i x y : ℕ) (a : List ℕ) (e f g : Made) (E : Makes (objects.charge-
       let s = accepted-sound G q in
       let pass = eq-eqb _ 0 (sym (answers G s) ∙ q) in
       same-bytes (decode a) (left-by i y (left-by i x (decode a .registry))) (left-by i (x + y) (decode a .registry)) (leaves-next E F s) (leaves G s)
-      (ap (λ (z : RegistryReply). z .after) (charging.same i (decode a .registry) (area-sound a s .registry) x y pass)) (F .bytes) (G .bytes)
+      (ap (λ (z : RegistryReply). z .after) (charging.same i (decode a .registry) (registry-sound a s) x y pass)) (F .bytes) (G .bytes)
 
-  -- "Where a passes and b fails, the state keeps a": b is refused with 12 and leaves every byte that a left; so is a + b, and leaves every byte that was there
+  -- "Where a passes and b fails, the state keeps a": y is refused with 12 and leaves every byte that x left; so is x + y, and leaves every byte that was there
   pub kept : Bytes a → e .returned ≡ 0 → (f .returned ≡ 0 → ⊥) → (f .returned ≡ 12) × (f .left ≡ e .left) × (g .returned ≡ 12) × (g .left ≡ a)
   kept bytes p q =
       let s = accepted-sound E p in
       let r = decode a .registry in
-      let (second-kept, whole-kept) = charging.kept i r (area-sound a s .registry) x y (eq-eqb _ 0 (sym (answers E s) ∙ p)) (ne-eqb _ 0 (λ z. q (answers-next E F s ∙ z))) in (
+      let (second-kept, whole-kept) = charging.kept i r (registry-sound a s) x y (eq-eqb _ 0 (sym (answers E s) ∙ p)) (ne-eqb _ 0 (λ z. q (answers-next E F s ∙ z))) in (
         answers-next E F s ∙ ap (λ (z : RegistryReply). z .number) second-kept,
         same-bytes (decode a) (left-by i y (left-by i x r)) (left-by i x r) (leaves-next E F s) (leaves E s) (ap (λ (z : RegistryReply). z .after) second-kept) (F .bytes) (E .bytes),
         answers G s ∙ ap (λ (z : RegistryReply). z .number) whole-kept,
@@ -163,7 +203,7 @@ pub restored : (i x : ℕ) (a : List ℕ) (e f : Made) → Makes (objects.charge
 restored i x a e f E F bytes p =
     let s = accepted-sound E p in
     let r = decode a .registry in
-    let back = charging.restored i r (area-sound a s .registry) x (eq-eqb _ 0 (sym (answers E s) ∙ p)) in (
+    let back = charging.restored i r (registry-sound a s) x (eq-eqb _ 0 (sym (answers E s) ∙ p)) in (
       answers-next E F s ∙ ap (λ (z : RegistryReply). z .number) back,
       same-bytes (decode a) (registry-runs.run (objects.uncharge i x) (left-by i x r) .after) r (leaves-next E F s) (itself s) (ap (λ (z : RegistryReply). z .after) back) (F .bytes) bytes,
     )
@@ -172,11 +212,12 @@ restored i x a e f E F bytes p =
 
 module _ (i j x y : ℕ) (a : List ℕ) (e f f′ e′ : Made) (E : Makes (objects.charge-more i x) a e) (F : Makes (objects.charge-more j y) (e .left) f)
     (F′ : Makes (objects.charge-more j y) a f′) (E′ : Makes (objects.charge-more i x) (f′ .left) e′) where
-  -- "Two charges on objects of different payers give the same answers and state in either order", accepted or refused, the objects there or not
-  pub either-order : payers-differ (decode a .registry) i j ≡ true → (e .returned ≡ e′ .returned) × (f .returned ≡ f′ .returned) × (f .left ≡ e′ .left)
+  -- "Two charges on objects of different payers give the same answers and state in either order", accepted or refused, the objects there or not: numbers and bytes; no answer word
+  -- is written (`charge-writes-no-word`)
+  pub either-order : (sound-area a ≡ true → payers-differ (decode a .registry) i j ≡ true) → (e .returned ≡ e′ .returned) × (f .returned ≡ f′ .returned) × (f .left ≡ e′ .left)
   either-order d = test (sound-area a)
       (λ s. let r = decode a .registry in
-      let (first-same, second-same, state) = charging.either-order i j r d x y in (
+      let (first-same, second-same, state) = charging.either-order i j r (d s) x y in (
         answers E s ∙ ap (λ (z : ℕ × Option Value). z .0) first-same ∙ sym (answers-next F′ E′ s),
         answers-next E F s ∙ ap (λ (z : ℕ × Option Value). z .0) second-same ∙ sym (answers F′ s),
         same-bytes (decode a) (left-by j y (left-by i x r)) (left-by i x (left-by j y r)) (leaves-next E F s) (leaves-next F′ E′ s) state (F .bytes) (E′ .bytes),
@@ -188,12 +229,20 @@ module _ (i j x y : ℕ) (a : List ℕ) (e f f′ e′ : Made) (E : Makes (objec
         stays F t ∙ stays E s ∙ sym (stays E′ t′ ∙ stays F′ s),
       ))
 
+  -- a missing id, i, answers 7 in both orders, and the other what it answers alone
+  pub missing-either-order : sound-area a ≡ true → has (decode a .registry) i ≡ false
+      → (e .returned ≡ 7) × (e′ .returned ≡ 7) × (f .returned ≡ f′ .returned) × (f .left ≡ e′ .left)
+  missing-either-order s h =
+      let seven = answers E s ∙ ap (λ (z : RegistryReply). z .number) (asks.charge-more-missing i x (decode a .registry) h) in
+      let (first-same, second-same, state) = either-order (λ _. charging.differing i j (decode a .registry) (λ k. absurd (false≢true (sym h ∙ k)))) in
+      (seven, sym first-same ∙ seven, second-same, state)
+
   -- whatever the payers: accepted one after the other, they are in the other order too, and leave the same bytes
   pub both-either-order : e .returned ≡ 0 → f .returned ≡ 0 → (f′ .returned ≡ 0) × (e′ .returned ≡ 0) × (f .left ≡ e′ .left)
   both-either-order p q =
       let s = accepted-sound E p in
       let r = decode a .registry in
-      let (j-first, i-next, state) = charging.both-either-order i j x y r (area-sound a s .registry) (eq-eqb _ 0 (sym (answers E s) ∙ p)) (eq-eqb _ 0 (sym (answers-next E F s) ∙ q)) in (
+      let (j-first, i-next, state) = charging.both-either-order i j x y r (registry-sound a s) (eq-eqb _ 0 (sym (answers E s) ∙ p)) (eq-eqb _ 0 (sym (answers-next E F s) ∙ q)) in (
         answers F′ s ∙ eqb-true _ 0 j-first,
         answers-next F′ E′ s ∙ eqb-true _ 0 i-next,
         same-bytes (decode a) (left-by j y (left-by i x r)) (left-by i x (left-by j y r)) (leaves-next E F s) (leaves-next F′ E′ s) state (F .bytes) (E′ .bytes),
@@ -268,13 +317,13 @@ module _ (i n : ℕ) (ns : List ℕ) (a : List ℕ) (es : List Made) (C : Charge
   module _ (g : Made) (G : Makes (objects.charge-more i (sum (n ∷ ns))) a g) where
     pub list-added : all-accepted es ≡ eqb (g .returned) 0
     list-added = test (sound-area a)
-        (λ s. list-is i (n ∷ ns) a es C s .0 ∙ charging.all-added i n ns (decode a .registry) (area-sound a s .registry) ∙ sym (ap (λ (m : ℕ). eqb m 0) (answers G s)))
+        (λ s. list-is i (n ∷ ns) a es C s .0 ∙ charging.all-added i n ns (decode a .registry) (registry-sound a s) ∙ sym (ap (λ (m : ℕ). eqb m 0) (answers G s)))
         (λ s. none-accepted i n ns a es C s ∙ sym (refused-no G s))
 
     -- the first refusal has the number of the sum's
     pub list-numbered : first-refusal es ≡ g .returned
     list-numbered = test (sound-area a)
-        (λ s. refusal-is i (n ∷ ns) a es C s ∙ charging.all-numbered i n ns (decode a .registry) (area-sound a s .registry) ∙ sym (answers G s))
+        (λ s. refusal-is i (n ∷ ns) a es C s ∙ charging.all-numbered i n ns (decode a .registry) (registry-sound a s) ∙ sym (answers G s))
         (λ s. first-refused i n ns a es C s ∙ sym (refuses G s))
 
     pub list-same : g .returned ≡ 0 → last es a ≡ g .left
@@ -283,13 +332,13 @@ module _ (i n : ℕ) (ns : List ℕ) (a : List ℕ) (es : List Made) (C : Charge
         let r = decode a .registry in
         let (all, left) = list-is i (n ∷ ns) a es C s in
         same-bytes (decode a) (left-by-all i (n ∷ ns) r) (left-by i (sum (n ∷ ns)) r) left (leaves G s)
-        (charging.all-same i n ns r (area-sound a s .registry) (sym all ∙ list-added ∙ eq-eqb (g .returned) 0 q)) (last-bytes i n ns a es C) (G .bytes)
+        (charging.all-same i n ns r (registry-sound a s) (sym all ∙ list-added ∙ eq-eqb (g .returned) 0 q)) (last-bytes i n ns a es C) (G .bytes)
 
   -- amounts with a sum of 2^64 or more, which is no argument, are not accepted throughout either
   pub list-too-large : Bytes a → 2 ^ 64 ≤ sum (n ∷ ns) → all-accepted es ≡ false
   list-too-large bytes h = test (sound-area a)
       (λ s. let r = decode a .registry in
-      list-is i (n ∷ ns) a es C s .0 ∙ charging.all-added i n ns r (area-sound a s .registry)
+      list-is i (n ∷ ns) a es C s .0 ∙ charging.all-added i n ns r (registry-sound a s)
       ∙ test (passes i (sum (n ∷ ns)) r)
       (λ k. absurd (omega (arith, charging.covered i (sum (n ∷ ns)) r k, limit-below a bytes s (payer-of r i))))
       (λ k. k))
@@ -302,7 +351,7 @@ module _ (i : ℕ) (ns ms : List ℕ) (h : Reordered ns ms) (a : List ℕ) (es f
       let r = decode a .registry in
       let (all, left) = list-is i ns a es C s in
       let (all′, left′) = list-is i ms a fs D s in
-      let (alike, state) = charging.no-order i ns ms r (area-sound a s .registry) h in (
+      let (alike, state) = charging.no-order i ns ms r (registry-sound a s) h in (
         all ∙ alike ∙ sym all′,
         λ k. same-bytes (decode a) (left-by-all i ns r) (left-by-all i ms r) left left′ (state (sym all ∙ k)) (bytes-after i ns a es bytes C) (bytes-after i ms a fs bytes D),
       )

@@ -1,10 +1,9 @@
 -- P7 by the book, of any book: two accepted charges write what one of their sum writes, in any order; a charge and its uncharge leave every figure. Assumes nothing.
 use mathlib.Core.Path.{_≡_, refl, sym, _∙_, ap}
-use mathlib.Core.Option.{Option, none, some}
-use mathlib.Core.List.{List, [], _∷_}
+use mathlib.Core.List.{List}
 use Prim.Native.Nat.{ℕ, _+_, _-_}
 use native.Mathlib.Omega.{arith}
-use Rattle.carv_area.specs.Table.{Row, at, alter}
+use Rattle.carv_area.specs.Table.{Row, alter}
 use Rattle.carv_area.specs.laws.Table.{at-alter-same, alter-alter, alter-id, alter-swap}
 use Rattle.carv_objects_spec.specs.Book.{Book, Object, Budget, Figures, memory-used, figures, or-no-object, or-no-budget, object-of, budget-of, with-memory, charge, credit, on-budget, on-charge, charge-more, uncharge, accepted}
 
@@ -54,24 +53,20 @@ book-swapped k i j a b =
 abbrev of-used : Budget → ℕ → Figures
 of-used x n = record { memory-used = n; memory-reserved = figures x .memory-reserved; cpu-reserved = figures x .cpu-reserved; cpu-left = figures x .cpu-left }
 
-module _ (k : Book) (i a : ℕ) where
-  -- a charge and its uncharge
-  abbrev both : Book
-  both = accepted (uncharge i a) (accepted (charge-more i a) k)
+both-noted : (k : Book) (i a : ℕ) → accepted (uncharge i a) (accepted (charge-more i a) k) ≡ noted k i (object-of k i .payer) (λ x. credit a (charge a x)) (λ c. c)
+both-noted k i a =
+    let p = object-of k i .payer in
+    ap (λ (q : ℕ). noted (accepted (charge-more i a) k) i q (credit a) (λ c. c - a)) (payer-stays k i p (charge a) (λ c. c + a) i)
+    ∙ noted-twice k i p (charge a) (credit a) (λ c. c + a) (λ c. c - a)
+    ∙ noted-as k i p (λ x. credit a (charge a x)) (λ x. credit a (charge a x)) (λ c. c + a - a) (λ c. c) (λ x. refl) (λ c. omega arith)
 
-  abbrev payer : ℕ
-  payer = object-of k i .payer
-
-  both-noted : both ≡ noted k i payer (λ x. credit a (charge a x)) (λ c. c)
-  both-noted =
-      ap (λ (q : ℕ). noted (accepted (charge-more i a) k) i q (credit a) (λ c. c - a)) (payer-stays k i payer (charge a) (λ c. c + a) i)
-      ∙ noted-twice k i payer (charge a) (credit a) (λ c. c + a) (λ c. c - a)
-      ∙ noted-as k i payer (λ x. credit a (charge a x)) (λ x. credit a (charge a x)) (λ c. c + a - a) (λ c. c) (λ x. refl) (λ c. omega arith)
-
-  -- leave the objects, and every budget's figures
-  pub book-restored : (both .objects ≡ k .objects) × ((j : ℕ) → figures (budget-of both j) ≡ figures (budget-of k j))
-  book-restored = (
-    ap (λ (z : Book). z .objects) both-noted ∙ alter-id (k .objects) i,
-    λ j. ap (λ (z : Book). figures (budget-of z j)) both-noted
-        ∙ at-alter-same (λ o. figures (or-no-budget o)) payer (λ x. credit a (charge a x)) (λ x. ap (of-used x) (omega arith)) (k .budgets) j,
-  )
+-- a charge and its uncharge leave the next id, the objects, and every budget's figures
+pub book-restored : (k : Book) (i a : ℕ) → (accepted (uncharge i a) (accepted (charge-more i a) k) .next ≡ k .next)
+    × (accepted (uncharge i a) (accepted (charge-more i a) k) .objects ≡ k .objects)
+    × ((j : ℕ) → figures (budget-of (accepted (uncharge i a) (accepted (charge-more i a) k)) j) ≡ figures (budget-of k j))
+book-restored k i a = (
+  refl,
+  ap (λ (z : Book). z .objects) (both-noted k i a) ∙ alter-id (k .objects) i,
+  λ j. ap (λ (z : Book). figures (budget-of z j)) (both-noted k i a)
+      ∙ at-alter-same (λ o. figures (or-no-budget o)) (object-of k i .payer) (λ x. credit a (charge a x)) (λ x. ap (of-used x) (omega arith)) (k .budgets) j,
+)

@@ -1,9 +1,9 @@
 -- P7 on every sound registry: charges add up and split, are undone, and commute where the payers differ; and whole lists of them. None of it asks that a sum is below 2^64: that
 -- a sum can be an argument of the C function is asked where there are C functions. Assumes nothing.
 use mathlib.Core.Path.{_≡_, refl, sym, _∙_, ap}
-use mathlib.Core.Bool.{Bool, true, false, cond, not, _&&_, false≢true}
+use mathlib.Core.Bool.{Bool, true, false, cond, _&&_, false≢true}
 use mathlib.Core.Option.{Option, none, some}
-use mathlib.Core.List.{List, [], _∷_}
+use mathlib.Core.List.{List, [], _∷_, _++_}
 use Prim.Native.Nat.{ℕ, _+_, _-_, _≤_}
 use native.Mathlib.Omega.{arith}
 use lib.Dec.{eqb, leb}
@@ -16,10 +16,13 @@ use Rattle.carv_budget.specs.laws.Account.{first, second}
 use Rattle.carv_objects_spec.specs.declared.Entry.{Entry}
 use Rattle.carv_objects_spec.specs.Reply.{Value, accept, refuse}
 use Rattle.carv_objects_spec.specs.Registry.{Registry, RegistryReply, or-missing, found, entry, has, payer-of, account-of, on-account, on-charge, budget, object, charge-more, uncharge}
+use Rattle.carv_objects_spec.specs.Sound.{sound}
 use Rattle.carv_objects_spec.specs.Charging.{passes, left-by, all-pass, left-by-all, first-refusal, sum, times, Reordered, answer, payers-differ}
 use Rattle.carv_objects_spec.specs.laws.SoundFacts.{Sound}
+use Rattle.carv_objects_spec.specs.laws.SoundLaws.{sound-told, sound-shown}
 use Rattle.carv_objects_spec.specs.laws.Kept.{live-object, charge-more-kept}
 use Rattle.carv_objects_spec.specs.laws.Questions as asks
+use Rattle.carv_objects_spec.specs.laws.Totals.{and-true}
 
 -- the entry of i, where it was altered
 read-altered : (i : ℕ) (f : Entry → Entry) (m : List (Row Entry)) → found (at m i) ≡ true → or-missing (at (alter i f m) i) ≡ f (or-missing (at m i))
@@ -104,17 +107,18 @@ covers F a b = test (leb (a + b) F)
 abbrev paying : Registry → ℕ → Account
 paying r i = account-of r (payer-of r i)
 
-abbrev charged : Registry → (i n : ℕ) → Registry
-charged r i n = moved r i (payer-of r i) (λ a. charge a n) (λ c. c + n)
+-- "`charge_more` raises entry and payer"
+abbrev raised : Registry → (i n : ℕ) → Registry
+raised r i n = moved r i (payer-of r i) (λ a. charge a n) (λ c. c + n)
 
 -- a charge is accepted exactly where it is covered
 passes-is : (i n : ℕ) (r : Registry) → has r i ≡ true → passes i n r ≡ leb n (free (paying r i))
 passes-is i n r h = test (leb n (free (paying r i))) (λ c. rw (h, c)) (λ c. rw (h, c))
 
-passed : (i n : ℕ) (r : Registry) → has r i ≡ true → passes i n r ≡ true → charge-more i n r ≡ accept none (charged r i n)
+passed : (i n : ℕ) (r : Registry) → has r i ≡ true → passes i n r ≡ true → charge-more i n r ≡ accept none (raised r i n)
 passed i n r h k = asks.charge-more-done i n r h (sym (passes-is i n r h) ∙ k)
 
-left-is : (i n : ℕ) (r : Registry) → has r i ≡ true → passes i n r ≡ true → left-by i n r ≡ charged r i n
+left-is : (i n : ℕ) (r : Registry) → has r i ≡ true → passes i n r ≡ true → left-by i n r ≡ raised r i n
 left-is i n r h k = ap (λ (z : RegistryReply). z .after) (passed i n r h k)
 
 failed : (i n : ℕ) (r : Registry) → has r i ≡ true → passes i n r ≡ false → charge-more i n r ≡ refuse 12 r
@@ -172,7 +176,7 @@ module _ (i a : ℕ) (r : Registry) (s : Sound r) (k : passes i a r ≡ true) wh
       passes-next j h q b ∙ ap (λ (p : ℕ). leb b (free (account-of r p) - a)) q
       ∙ sym (ap (λ (z : Bool). z && leb b (free (paying r i) - a)) (sym (passes-is i a r there) ∙ k)) ∙ covers (free (paying r i)) a b
 
-  left-next : (b : ℕ) → passes i b (left-by i a r) ≡ true → left-by i b (left-by i a r) ≡ charged r i (a + b)
+  left-next : (b : ℕ) → passes i b (left-by i a r) ≡ true → left-by i b (left-by i a r) ≡ raised r i (a + b)
   left-next b l =
       left-is i b (left-by i a r) (left-has i a i r ∙ there) l
       ∙ ap (λ (p : ℕ). moved (left-by i a r) i p (λ x. charge x b) (λ c. c + b)) (left-payer i a i r)
@@ -181,20 +185,33 @@ module _ (i a : ℕ) (r : Registry) (s : Sound r) (k : passes i a r ≡ true) wh
       ∙ moved-as r i (payer-of r i) (λ x. charge (charge x a) b) (λ x. charge x (a + b)) (λ c. c + a + b) (λ c. c + (a + b))
       (λ x. used-as x (x .«memory_used» + a + b) (x .«memory_used» + (a + b)) (omega arith)) (λ c. omega arith)
 
-module _ (i : ℕ) (r : Registry) (s : Sound r) where
-  -- where a fails, a + b fails with its number, and neither changes anything
+module _ (i : ℕ) (r : Registry) where
+  -- where a fails, a + b is answered as a; neither changes anything (`refused-stays`)
   pub first-fails : (a b : ℕ) → passes i a r ≡ false → charge-more i (a + b) r ≡ charge-more i a r
   first-fails a b k = test (has r i)
       (λ h. let l = leb-false a (free (paying r i)) (sym (passes-is i a r h) ∙ k) in
       asks.charge-more-cover i (a + b) r h (lt-leb (a + b) (free (paying r i)) (omega arith)) ∙ sym (failed i a r h k))
       (λ h. asks.charge-more-missing i (a + b) r h ∙ sym (asks.charge-more-missing i a r h))
 
+  -- a charge of 0 is accepted wherever the object is there, nothing free or not, and changes nothing
+  pub nothing : has r i ≡ true → charge-more i 0 r ≡ accept none r
+  nothing h =
+      let p = payer-of r i in
+      passed i 0 r h (passes-is i 0 r h ∙ le-leb 0 (free (paying r i)) (omega arith))
+      ∙ ap (λ (z : Registry). accept none z)
+      (moved-as r i p (λ x. charge x 0) (λ x. x) (λ c. c + 0) (λ c. c) (λ x. used-as x (x .«memory_used» + 0) (x .«memory_used») (omega arith)) (λ c. omega arith)
+      ∙ moved-none r i p)
+
+module _ (i : ℕ) (r : Registry) (s : sound r ≡ true) where
+  S : Sound r
+  S = sound-told r s
+
   -- "`charge_more` of a and then b is accepted throughout exactly when a + b is"
   pub added : (a b : ℕ) → (passes i a r && passes i b (left-by i a r)) ≡ passes i (a + b) r
   added a b = test (passes i a r)
       (λ k. let h = passing-there i a r k in
-      ap (λ (z : Bool). z && passes i b (left-by i a r)) k ∙ both-covered i a r s k i h refl b ∙ sym (passes-is i (a + b) r h))
-      (λ k. ap (λ (z : Bool). z && passes i b (left-by i a r)) k ∙ sym (ap (λ (z : RegistryReply). eqb (z .number) 0) (first-fails a b k) ∙ k))
+      ap (λ (z : Bool). z && passes i b (left-by i a r)) k ∙ both-covered i a r S k i h refl b ∙ sym (passes-is i (a + b) r h))
+      (λ k. ap (λ (z : Bool). z && passes i b (left-by i a r)) k ∙ sym (ap (λ (z : RegistryReply). eqb (z .number) 0) (first-fails i r a b k) ∙ k))
 
   -- ".. and leaves the same state": b is answered as a + b, and leaves what that leaves
   pub same : (a b : ℕ) → passes i (a + b) r ≡ true → charge-more i b (left-by i a r) ≡ charge-more i (a + b) r
@@ -204,7 +221,7 @@ module _ (i : ℕ) (r : Registry) (s : Sound r) where
       let two = second (passes i a r) (passes i b (left-by i a r)) parts in
       let h = passing-there i a r one in
       passed i b (left-by i a r) (left-has i a i r ∙ h) two
-      ∙ ap (λ (z : Registry). accept none z) (sym (left-is i b (left-by i a r) (left-has i a i r ∙ h) two) ∙ left-next i a r s one b two)
+      ∙ ap (λ (z : Registry). accept none z) (sym (left-is i b (left-by i a r) (left-has i a i r ∙ h) two) ∙ left-next i a r S one b two)
       ∙ sym (passed i (a + b) r h k)
 
   -- "Where a passes and b fails, the state keeps a": b is refused with 12 and leaves what a left; so is a + b, and leaves what was there
@@ -238,15 +255,6 @@ module _ (i : ℕ) (r : Registry) (s : Sound r) where
       (λ x. used-as x (x .«memory_used» + a - a) (x .«memory_used») (omega arith)) (λ c. omega arith)
       ∙ moved-none r i p
       )
-
-  -- a charge of 0 is accepted wherever the object is there, nothing free or not, and changes nothing
-  pub nothing : has r i ≡ true → charge-more i 0 r ≡ accept none r
-  nothing h =
-      let p = payer-of r i in
-      passed i 0 r h (passes-is i 0 r h ∙ le-leb 0 (free (paying r i)) (omega arith))
-      ∙ ap (λ (z : Registry). accept none z)
-      (moved-as r i p (λ x. charge x 0) (λ x. x) (λ c. c + 0) (λ c. c) (λ x. used-as x (x .«memory_used» + 0) (x .«memory_used») (omega arith)) (λ c. omega arith)
-      ∙ moved-none r i p)
 
 -- Two charges, on objects i and j, in either order.
 
@@ -318,14 +326,20 @@ module _ (i j : ℕ) (r : Registry) (d : payers-differ r i j ≡ true) where
           (λ l. refused-stays j b (left-by i a r) (j-passes ∙ l) ∙ sym (ap (left-by i a) (refused-stays j b r l))))
           (λ k. ap (left-by j b) (refused-stays i a r k) ∙ sym (refused-stays i a (left-by j b r) (i-passes ∙ k)))
 
+-- all objects with different payers are meant, and all ids without an object
+pub differing : (i j : ℕ) (r : Registry) → (has r i ≡ true → has r j ≡ true → payer-of r i ≡ payer-of r j → ⊥) → payers-differ r i j ≡ true
+differing i j r apart = test (has r i)
+    (λ h. test (has r j) (λ k. rw (h, k, ne-eqb (payer-of r i) (payer-of r j) (apart h k))) (λ k. rw (h, k)))
+    (λ h. rw h)
+
 -- Whatever the payers: two charges that are accepted one after the other are so in the other order, and leave the same.
-pub both-either-order : (i j a b : ℕ) (r : Registry) → Sound r → passes i a r ≡ true → passes j b (left-by i a r) ≡ true
+pub both-either-order : (i j a b : ℕ) (r : Registry) → sound r ≡ true → passes i a r ≡ true → passes j b (left-by i a r) ≡ true
     → (passes j b r ≡ true) × (passes i a (left-by j b r) ≡ true) × (left-by j b (left-by i a r) ≡ left-by i a (left-by j b r))
 both-either-order i j a b r s k l = test (eqb (payer-of r j) (payer-of r i))
     (λ e. let q = eqb-true (payer-of r j) (payer-of r i) e in
-    let m = leb-true (a + b) (free (paying r i)) (sym (both-covered i a r s k j g q b) ∙ l) in
+    let m = leb-true (a + b) (free (paying r i)) (sym (both-covered i a r (sound-told r s) k j g q b) ∙ l) in
     let j-first : passes j b r ≡ true = passes-is j b r g ∙ ap (λ (p : ℕ). leb b (free (account-of r p))) q ∙ le-leb b (free (paying r i)) (omega arith) in
-    let i-next : passes i a (left-by j b r) ≡ true = both-covered j b r s j-first i h (sym q) a ∙ ap (λ (p : ℕ). leb (b + a) (free (account-of r p))) q
+    let i-next : passes i a (left-by j b r) ≡ true = both-covered j b r (sound-told r s) j-first i h (sym q) a ∙ ap (λ (p : ℕ). leb (b + a) (free (account-of r p))) q
     ∙ le-leb (b + a) (free (paying r i)) (omega arith) in
     (j-first, i-next, swapped i j a b r k l j-first i-next))
     (λ e. let q = eqb-false (payer-of r j) (payer-of r i) e in
@@ -341,23 +355,23 @@ both-either-order i j a b r s k l = test (eqb (payer-of r j) (payer-of r i))
 
 -- Lists of charges on one object. An empty one is accepted anywhere, a charge of 0 where the object is there (`nothing`), so a list has a first charge here.
 
-pub all-added : (i n : ℕ) (ns : List ℕ) (r : Registry) → Sound r → all-pass i (n ∷ ns) r ≡ passes i (sum (n ∷ ns)) r
-all-added i n [] r s = and-true (passes i n r) ∙ ap (λ (m : ℕ). passes i m r) (omega arith)
-  where
-    and-true : (b : Bool) → (b && true) ≡ b
-    and-true true = refl
-    and-true false = refl
-all-added i n (m ∷ ms) r s =
-    ap (λ (z : Bool). passes i n r && z) (all-added i m ms (left-by i n r) (charge-more-kept i n r s)) ∙ added i r s n (sum (m ∷ ms))
+-- a registry that a charge leaves is sound
+left-sound : (i n : ℕ) (r : Registry) → sound r ≡ true → sound (left-by i n r) ≡ true
+left-sound i n r s = sound-shown (left-by i n r) (charge-more-kept i n r (sound-told r s))
 
-pub all-same : (i n : ℕ) (ns : List ℕ) (r : Registry) → Sound r → all-pass i (n ∷ ns) r ≡ true → left-by-all i (n ∷ ns) r ≡ left-by i (sum (n ∷ ns)) r
+pub all-added : (i n : ℕ) (ns : List ℕ) (r : Registry) → sound r ≡ true → all-pass i (n ∷ ns) r ≡ passes i (sum (n ∷ ns)) r
+all-added i n [] r s = and-true (passes i n r) refl ∙ ap (λ (m : ℕ). passes i m r) (omega arith)
+all-added i n (m ∷ ms) r s =
+    ap (λ (z : Bool). passes i n r && z) (all-added i m ms (left-by i n r) (left-sound i n r s)) ∙ added i r s n (sum (m ∷ ms))
+
+pub all-same : (i n : ℕ) (ns : List ℕ) (r : Registry) → sound r ≡ true → all-pass i (n ∷ ns) r ≡ true → left-by-all i (n ∷ ns) r ≡ left-by i (sum (n ∷ ns)) r
 all-same i n [] r s k = ap (λ (m : ℕ). left-by i m r) (omega arith)
 all-same i n (m ∷ ms) r s k =
-    all-same i m ms (left-by i n r) (charge-more-kept i n r s) (second (passes i n r) (all-pass i (m ∷ ms) (left-by i n r)) k)
+    all-same i m ms (left-by i n r) (left-sound i n r s) (second (passes i n r) (all-pass i (m ∷ ms) (left-by i n r)) k)
     ∙ ap (λ (z : RegistryReply). z .after) (same i r s n (sum (m ∷ ms)) (sym (all-added i n (m ∷ ms) r s) ∙ k))
 
 -- the first refusal has the number with which the sum is refused
-pub all-numbered : (i n : ℕ) (ns : List ℕ) (r : Registry) → Sound r → first-refusal i (n ∷ ns) r ≡ charge-more i (sum (n ∷ ns)) r .number
+pub all-numbered : (i n : ℕ) (ns : List ℕ) (r : Registry) → sound r ≡ true → first-refusal i (n ∷ ns) r ≡ charge-more i (sum (n ∷ ns)) r .number
 all-numbered i n [] r s =
     let alone : n ≡ n + 0 = omega arith in
     test (passes i n r)
@@ -365,9 +379,9 @@ all-numbered i n [] r s =
     (λ k. ap (λ (z : Bool). cond z 0 (charge-more i n r .number)) k) ∙ ap (λ (m : ℕ). charge-more i m r .number) alone
 all-numbered i n (m ∷ ms) r s = test (passes i n r)
     (λ k. ap (λ (z : Bool). cond z (first-refusal i (m ∷ ms) (left-by i n r)) (charge-more i n r .number)) k
-    ∙ all-numbered i m ms (left-by i n r) (charge-more-kept i n r s) ∙ numbered i r s n (sum (m ∷ ms)) k)
+    ∙ all-numbered i m ms (left-by i n r) (left-sound i n r s) ∙ numbered i r s n (sum (m ∷ ms)) k)
     (λ k. ap (λ (z : Bool). cond z (first-refusal i (m ∷ ms) (left-by i n r)) (charge-more i n r .number)) k
-    ∙ sym (ap (λ (z : RegistryReply). z .number) (first-fails i r s n (sum (m ∷ ms)) k)))
+    ∙ sym (ap (λ (z : RegistryReply). z .number) (first-fails i r n (sum (m ∷ ms)) k)))
 
 -- The same amounts have the same sum.
 
@@ -393,8 +407,13 @@ sum-reordered (n ∷ ns) ms h =
     let (sum-is, times-are) = taken-out n ms (λ z. omega arith) in
     let rest = sum-reordered ns (take-out n ms) (λ k. omega (arith, h k, times-are k)) in omega arith
 
+-- neighbours may change places, so that every order is meant
+pub neighbours-reordered : (ns : List ℕ) (n m : ℕ) (ms : List ℕ) → Reordered (ns ++ (n ∷ m ∷ ms)) (ns ++ (m ∷ n ∷ ms))
+neighbours-reordered [] n m ms k = omega arith
+neighbours-reordered (x ∷ ns) n m ms k = ap (λ (t : ℕ). cond (eqb x k) 1 0 + t) (neighbours-reordered ns n m ms k)
+
 -- No order of the charges matters: accepted throughout in one, they are in each, and leave the same.
-pub no-order : (i : ℕ) (ns ms : List ℕ) (r : Registry) → Sound r → Reordered ns ms
+pub no-order : (i : ℕ) (ns ms : List ℕ) (r : Registry) → sound r ≡ true → Reordered ns ms
     → (all-pass i ns r ≡ all-pass i ms r) × (all-pass i ns r ≡ true → left-by-all i ns r ≡ left-by-all i ms r)
 no-order i [] [] r s h = (refl, λ _. refl)
 no-order i [] (m ∷ ms) r s h = absurd (not-empty m ms (λ n. sym (h n)))
