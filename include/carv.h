@@ -244,16 +244,17 @@ uint64_t carv_create_budget(uint8_t *area, size_t area_bytes, uint64_t parent, u
                             uint64_t memory, uint64_t time, uint64_t *out, size_t out_words);
 
 /*
- * Raises an object's charge and what its payer has used. Two charges whose sum is below 2^64 are
- * both accepted exactly when one charge of the sum is, and then leave the same bytes. Refused with
- * 7, 12.
+ * Raises an object's charge and what its payer has used. Two charges of one object whose sum is
+ * below 2^64 are both accepted exactly when one charge of the sum is, and then leave the same bytes;
+ * where only the first is accepted, it stays. Charges on objects of different payers give the same
+ * answers and bytes in either order. Refused with 7, 12.
  */
 uint64_t carv_charge_more(uint8_t *area, size_t area_bytes, uint64_t id, uint64_t bytes,
                           uint64_t *out, size_t out_words);
 
 /*
- * Lowers an object's charge and what its payer has used. Right after an accepted charge of as many
- * bytes, it restores the area. Refused with 7, 11.
+ * Lowers an object's charge and what its payer has used. Right after an accepted charge of the same
+ * object by as many bytes, it restores the area. Refused with 7, 11.
  */
 uint64_t carv_uncharge(uint8_t *area, size_t area_bytes, uint64_t id, uint64_t bytes, uint64_t *out,
                        size_t out_words);

@@ -349,10 +349,10 @@ static bool is_same(const uint8_t *copy) {
 }
 
 /*
- * Memory booked in parts and at once. The root pays for the Frame 2 and the budget 3, which has
- * 8192 bytes and pays for the Frame 4: 4096 are free for its charges.
+ * Memory booked singly and in bulk. The root pays for the Frame 2 and the budget 3, which has 8192
+ * bytes and pays for the Frame 4: 4096 are free for its charges.
  */
-static void charges_in_parts(void) {
+static void charges_in_bulk(void) {
     static uint8_t before[CARV_AREA_BYTES];
     static uint8_t after[CARV_AREA_BYTES];
     open_board(1000000);
@@ -374,7 +374,7 @@ static void charges_in_parts(void) {
     DONE(carv_uncharge(AREA, 4, 4096, OUT));
     CHECK(is_same(before));
 
-    /* One byte more is refused at once; in parts, the first passes and stays. */
+    /* One byte more is refused in bulk; singly, the first passes and stays. */
     REFUSED(CARV_REFUSED_LIMIT, carv_charge_more(AREA, 4, 4097, OUT));
     DONE(carv_charge_more(AREA, 4, 1000, OUT));
     keep(after);
@@ -745,7 +745,7 @@ int main(void) {
     charges();
     kinds();
     carvings();
-    charges_in_parts();
+    charges_in_bulk();
     removals();
     totals();
     full_objects();

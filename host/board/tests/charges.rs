@@ -48,3 +48,17 @@ fn wrong_arguments_end_with_2() {
         assert!(run.err.contains(part), "{arguments}: {}", run.err);
     }
 }
+
+/// The gate makes every comparison that the program offers.
+#[test]
+fn the_gate_runs_each_command() {
+    let gate = include_str!("../../../.ci/compare");
+    for command in ["random", "short", "damaged", "charges"] {
+        let line = format!("\nhost/target/release/board {command} ");
+        assert!(gate.contains(&line), "{command}");
+        assert!(
+            board("--help").out.contains(&format!(" board {command} ")),
+            "{command}"
+        );
+    }
+}

@@ -1,6 +1,6 @@
 //! The comparison finds mistakes: each is planted in the mock in turn.
 
-use carv_board_host::charges::{self, CASES, Law};
+use carv_board_host::charges::{self, CASES, Case, Law};
 use carv_board_host::mock::{Mistake, plant};
 use carv_board_host::tally::REMOVALS;
 use carv_board_host::{damaged, runs, short, sound};
@@ -311,6 +311,13 @@ fn laws_of_charges_meet_every_case() {
         let found = format!("{law:?}: {accepted}, {refused}, {unsound}");
         assert!(is_met && refused > 100 && unsound > 100, "{found}");
     }
+    // These come only where a charge is refused, and not each time.
+    for (case, law) in [
+        (Case::FirstPasses, Law::Split),
+        (Case::OrderMatters, Law::OnePayer),
+    ] {
+        assert!(report.case(case) < report.law(law)[1], "{case:?}");
+    }
 }
 
 /// A mistake, the law that finds it, and what it says.
@@ -351,7 +358,7 @@ const CHARGES_BREAK_LAWS: [Broken; 20] = [
     (
         Mistake::ChargeOfABudgetBookedOnItself,
         Law::Split,
-        "b is refused with 1, not 12",
+        "a, then b: refused with 1; a + b: refused with 12",
     ),
     (
         Mistake::FourthChargeInARowRefused,

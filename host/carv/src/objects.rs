@@ -87,7 +87,7 @@ impl Board {
 
     /// Raises an object's charge, and what its payer has used.
     ///
-    /// Two charges of an object whose sum is below 2^64 are both accepted exactly when one charge of
+    /// Two charges of one object whose sum is below 2^64 are both accepted exactly when one charge of
     /// the sum is, and then leave the same board; where only the first is accepted, it stays. Charges
     /// on objects of different payers give the same answers and board in either order.
     ///
@@ -98,12 +98,12 @@ impl Board {
     ///
     /// let mut board = Board::open(Limits { cpu_ns: 10_000_000, memory_bytes: 8_192 })?;
     /// let frame = board.create(Kind::Frame, ObjectId::ROOT, Backing::There)?;
-    /// let mut in_parts = board.clone();
-    /// in_parts.charge_more(frame, 1_000)?;
-    /// in_parts.charge_more(frame, 3_096)?;
+    /// let mut singly = board.clone();
+    /// singly.charge_more(frame, 1_000)?;
+    /// singly.charge_more(frame, 3_096)?;
     ///
     /// board.charge_more(frame, 4_096)?;
-    /// assert!(board == in_parts);
+    /// assert!(board == singly);
     /// assert_eq!(board.charge_more(frame, 1), Err(Refusal::Limit));
     /// # Ok::<(), Refusal>(())
     /// ```
@@ -114,7 +114,7 @@ impl Board {
 
     /// Lowers an object's charge, and what its payer has used.
     ///
-    /// Right after an accepted charge of as many bytes, it restores the board.
+    /// Right after an accepted charge of the same object by as many bytes, it restores the board.
     ///
     /// Refused with [`Refusal::Missing`] and [`Charge`](Refusal::Charge).
     ///

@@ -1,5 +1,5 @@
--- P7 over areas of bytes and the exported functions: "The memory team books pages singly and in bulk and wants both to agree." All of it holds of any bytes: on a damaged area
--- each of these calls is refused with 1 and leaves every byte. Assumes nothing.
+-- P7 over areas of bytes and the exported functions: "The memory team books pages singly and in bulk and wants both to agree." Where a sentence doesn't ask for a sound area it
+-- holds of any bytes: on a damaged one each of these calls is refused with 1 and leaves every byte. Assumes nothing.
 use mathlib.Core.Path.{_≡_, refl, sym, ap, subst, _∙_}
 use mathlib.Core.Bool.{Bool, true, false, cond, _&&_, false≢true}
 use mathlib.Core.Option.{Option, none, some}
@@ -131,7 +131,7 @@ module _ (i n : ℕ) (a : List ℕ) (e : Made) where
 -- One charge, of 0 or on a missing object, on a sound area: 0 and 7, and every byte stays.
 
 module _ (i : ℕ) (a : List ℕ) (e : Made) (bytes : Bytes a) (s : sound-area a ≡ true) where
-  unmoved : (n m : ℕ) → Makes (objects.charge-more i n) a e → (answered : reply (objects.charge-more i n) a .number ≡ m) → left-by i n (decode a .registry) ≡ decode a .registry
+  unmoved : (n m : ℕ) → Makes (objects.charge-more i n) a e → reply (objects.charge-more i n) a .number ≡ m → left-by i n (decode a .registry) ≡ decode a .registry
       → (e .returned ≡ m) × (e .left ≡ a)
   unmoved n m E answered stays = (
     answers E s ∙ answered,

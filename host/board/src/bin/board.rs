@@ -22,8 +22,9 @@ short    makes every list of up to DEPTH calls out of 22 on the registry, and ou
          threads, each on a new board
 damaged  damages COUNT areas and makes every kind of call on each: one that isn't sound
          must be refused with 1, without any change
-charges  runs laws of charges on COUNT areas, some of them damaged, and compares copies of each:
-         charged in parts and at once, charged and uncharged, charged in either order
+charges  runs laws of charges on COUNT areas, some of them damaged, by the port alone, and
+         compares copies of each: charged singly and in bulk, charged and uncharged, charged in
+         either order
 soak     random calls and damaged areas by turns, for a time or a count, with a report:
          see board soak --help
 
@@ -93,4 +94,25 @@ fn laws_of_charges((count, seed): (u64, u64)) -> Result<String, String> {
 
 fn report(tally: &Tally) -> String {
     format!("{tally}\n{} calls, 0 differences", tally.total())
+}
+
+#[cfg(all(test, feature = "mock"))]
+mod tests {
+    use super::*;
+    use carv_board_host::mock::{Mistake, plant};
+
+    #[test]
+    fn a_broken_law_is_told_with_its_place_and_calls() {
+        plant(Some(Mistake::UnchargeKeepsTheEntry));
+        let done = compare(&["charges", "100", "2"]);
+        plant(None);
+        let why = done.expect("called rightly").expect_err("a difference");
+        for part in [
+            "seed 2, area ",
+            ", a charge and its uncharge: ",
+            "\n  copy 1: charge_more(",
+        ] {
+            assert!(why.contains(part), "{part}: {why}");
+        }
+    }
 }

@@ -222,6 +222,7 @@ impl<'a> Choice<'a> {
 mod tests {
     use super::*;
     use look::tests::table;
+    use std::cmp::Ordering;
     use std::collections::BTreeSet;
 
     const FREE: [u64; 5] = [0, 1, 600, u64::MAX - 1, u64::MAX];
@@ -237,14 +238,20 @@ mod tests {
         let mut choice = Choice::new(&table, &mut draw);
         let payer = |id| look::payer(&table, id);
         let [mut drawn, mut missing] = [(); 2].map(|()| BTreeSet::new());
+        let mut pairs = BTreeSet::new();
         for _ in 0..1_000 {
             drawn.insert(choice.object());
             missing.insert(choice.missing());
             let [one, other] = choice.two_payers();
             assert!(payer(one) != payer(other) || payer(one).is_none());
+            pairs.insert([one, other]);
             let [one, other] = choice.one_payer();
             assert!(payer(one) == payer(other) && payer(one).is_some());
         }
+        let both_ways = pairs
+            .iter()
+            .filter(|[one, other]| pairs.contains(&[*other, *one]));
+        assert!(both_ways.count() > 20);
         let none = [0, 8, 10, u64::MAX];
         assert!(missing.into_iter().eq(none));
         let live = table.objects.iter().map(|row| row.id);
@@ -272,5 +279,31 @@ mod tests {
             assert!(sum(&choice.too_large(free)) > largest);
         }
         assert!(lengths.into_iter().eq(1..=LONGEST));
+    }
+
+    #[test]
+    fn edges_are_drawn() {
+        let table = table();
+        let mut draw = Draw::new(1);
+        let mut choice = Choice::new(&table, &mut draw);
+        let [mut amounts, mut sums] = [(); 2].map(|()| BTreeSet::new());
+        let mut beyond = BTreeSet::new();
+        for _ in 0..2_000 {
+            amounts.insert(u128::from(choice.amount(600)));
+            sums.insert(sum(&choice.two_parts(600)));
+            let list = choice.too_large(600);
+            beyond.insert((list.len(), sum(&list).cmp(&(1 << 64))));
+        }
+        let page = u128::from(PAGE);
+        let largest = u128::from(u64::MAX);
+        for amount in [0, 1, 599, 600, 601, page, largest] {
+            assert!(amounts.contains(&amount), "{amount}");
+        }
+        for sum in [0, 600, 601, 2 * page, (1 << 63) - 1, largest] {
+            assert!(sums.contains(&sum), "{sum}");
+        }
+        for order in [Ordering::Equal, Ordering::Greater] {
+            assert!(beyond.contains(&(2, order)), "{order:?}");
+        }
     }
 }

@@ -113,12 +113,13 @@ mod tests {
         let holds = |both, first: &Made, sum| split(&BEFORE, &both, first, &sum).is_ok();
         assert!(holds(made([0, 0], 2), &a, made([0], 2)));
         assert!(!holds(made([0, 0], 2), &a, made([0], 3)), "other bytes");
-        assert!(!holds(made([0, 0], 2), &a, made([12], 0)), "only in parts");
-        assert!(!holds(made([0, 12], 1), &a, made([0], 2)), "only at once");
+        assert!(!holds(made([0, 0], 2), &a, made([12], 0)), "only singly");
+        assert!(!holds(made([0, 12], 1), &a, made([0], 2)), "only in bulk");
         assert!(holds(made([0, 12], 1), &a, made([12], 0)));
         assert!(!holds(made([0, 12], 1), &a, made([12], 1)), "a + b stays");
         assert!(!holds(made([0, 12], 0), &a, made([12], 0)), "a is lost");
-        assert!(!holds(made([0, 7], 1), &a, made([12], 0)), "another number");
+        assert!(!holds(made([0, 7], 1), &a, made([12], 0)), "numbers");
+        assert!(!holds(made([0, 7], 1), &a, made([7], 0)), "another number");
         let refused = made([12], 0);
         assert!(holds(made([12, 0], 2), &refused, made([12], 0)));
         assert!(holds(made([7, 7], 0), &refused, made([7], 0)));
@@ -172,6 +173,7 @@ mod tests {
         assert!(!holds(made([0, 0], 2), made([0, 0], 3)), "other bytes");
         assert!(holds(made([0, 12], 2), made([0, 12], 3)), "the first wins");
         assert!(!holds(made([0, 12], 2), made([0, 0], 2)), "in one order");
+        assert!(!holds(made([0, 0], 2), made([0, 12], 2)), "in one order");
         assert!(!holds(made([0, 7], 2), made([0, 7], 2)), "another number");
         assert!(holds(made([0, 12], 2), made([12, 0], 2)), "b never fits");
         assert!(!holds(made([0, 12], 2), made([12, 0], 3)), "other bytes");

@@ -98,9 +98,7 @@ fn list(choice: &mut Choice, copies: &mut Copies) -> Result<Met, Difference> {
     let amounts = choice.list(choice.free(id));
     let shuffled = choice.shuffled(&amounts);
     let mut cases = cases_of(choice, id, &amounts);
-    if amounts.contains(&0) && amounts.iter().any(|amount| *amount > 0) {
-        cases.push(Case::ZeroInAList);
-    }
+    cases.extend(Case::of_list(&amounts));
     let listed = copies.make(&all_of(id, &amounts));
     let shuffled = copies.make(&all_of(id, &shuffled));
     let sum = copies.make(&[charge_more(id, amounts.iter().sum())]);

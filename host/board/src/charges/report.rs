@@ -7,7 +7,7 @@ use std::collections::BTreeMap;
 use std::fmt;
 
 /// How often each law was run on areas that are sound, with all charges accepted or some refused,
-/// and on others; and which cases came on sound ones.
+/// and on others; which areas there were, and which cases the laws met on sound ones.
 #[derive(Clone, Debug, Default, PartialEq, Eq)]
 pub struct Report {
     laws: BTreeMap<Law, [u64; 3]>,
@@ -67,5 +67,55 @@ impl fmt::Display for Report {
             writeln!(f, "{name:48}{:>12}", self.case(case))?;
         }
         write!(f, "\n{} calls", self.calls)
+    }
+}
+
+#[cfg(test)]
+mod tests {
+    use super::*;
+    use crate::area;
+    use carv_compare::board::make::charge_more;
+    use std::collections::BTreeSet;
+
+    #[test]
+    fn laws_cases_and_calls_are_counted() {
+        let mut report = Report::default();
+        let lent = vec![0; area::BYTES];
+        for (is_sound, is_accepted) in [(true, true), (true, false), (true, false), (false, false)]
+        {
+            let mut copies = Copies::new(&lent, is_sound);
+            copies.make(&[charge_more(1, 0), charge_more(1, 0)]);
+            let cases = vec![Case::Root];
+            let met = Met { is_accepted, cases };
+            report.count_law(Law::Undo, met, &copies);
+        }
+        assert_eq!(report.law(Law::Undo), [1, 2, 1]);
+        assert_eq!(report.law(Law::Split), [0; 3]);
+        assert_eq!(report.case(Case::Root), 3, "only on sound areas");
+        assert_eq!(report.calls(), 8);
+    }
+
+    #[test]
+    fn every_law_and_case_has_its_line() {
+        let mut report = Report::default();
+        let mut expected = vec!["law accepted refused unsound".to_string()];
+        for (place, law) in (1..).zip(Law::ALL) {
+            report.laws.insert(law, [place, place + 10, place + 20]);
+            let name = law.name();
+            expected.push(format!("{name} {place} {} {}", place + 10, place + 20));
+        }
+        expected.extend([String::new(), "case came".to_string()]);
+        for (place, (case, name)) in (100..).zip(CASES) {
+            report.cases.insert(case, place);
+            expected.push(format!("{name} {place}"));
+        }
+        report.calls = 7;
+        expected.extend([String::new(), "7 calls".to_string()]);
+        let text = report.to_string();
+        let words = |line: &str| line.split_whitespace().collect::<Vec<_>>().join(" ");
+        let found: Vec<String> = text.lines().map(words).collect();
+        assert_eq!(found, expected);
+        let names: BTreeSet<&str> = Law::ALL.map(Law::name).into_iter().collect();
+        assert_eq!(names.len(), Law::ALL.len());
     }
 }
