@@ -21,11 +21,10 @@ pub use report::Report;
 use crate::area::{self, Table};
 use crate::damage::{self, Victim};
 use crate::pair::{Difference, Pair};
-use crate::runs::RandomBoards;
+use crate::runs::{self, RandomBoards};
 use crate::sound::broken_rule;
 use carv_compare::board::make::{carve, insert, open};
 use carv_compare::draw::Draw;
-use carv_compare::progress::Progress;
 use carv_oracle::account::PERIOD;
 use choice::Choice;
 use copies::Copies;
@@ -44,18 +43,8 @@ pub fn charges(count: u64, seed: u64) -> Result<Report, String> {
 /// # Errors
 /// The first difference, in a few lines.
 pub fn only(laws: &[Law], count: u64, seed: u64) -> Result<Report, String> {
-    let mut boards = RandomBoards::new(seed);
     let mut report = Report::default();
-    let mut progress = Progress::new(count);
-    for place in 0..count {
-        for _ in 0..boards.few() {
-            let done = boards.step();
-            done.map_err(|found| found.shortened().to_string())?;
-        }
-        one_area(&mut boards, laws, &mut report).map_err(|why| format!("area {place}, {why}"))?;
-        progress.tell(place);
-    }
-    progress.end();
+    runs::areas(count, seed, |boards| one_area(boards, laws, &mut report))?;
     Ok(report)
 }
 

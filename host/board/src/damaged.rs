@@ -6,12 +6,11 @@ use crate::area;
 use crate::damage::{self, Damage, Victim};
 use crate::pair::Pair;
 use crate::port::IMAGE_BYTES;
-use crate::runs::RandomBoards;
+use crate::runs::{self, RandomBoards};
 use crate::sound::broken_rule;
 use carv_compare::board::call::{Call, Op};
 use carv_compare::board::reference::{ANSWER_WORDS, UNSOUND};
 use carv_compare::board::walk::Walk;
-use carv_compare::progress::Progress;
 use carv_oracle::account::PERIOD;
 use std::collections::BTreeMap;
 use std::fmt;
@@ -83,18 +82,8 @@ impl fmt::Display for Report {
 /// # Errors
 /// The first difference, in a few lines.
 pub fn damaged(count: u64, seed: u64) -> Result<Report, String> {
-    let mut boards = RandomBoards::new(seed);
     let mut report = Report::default();
-    let mut progress = Progress::new(count);
-    for place in 0..count {
-        for _ in 0..boards.few() {
-            let done = boards.step();
-            done.map_err(|found| found.shortened().to_string())?;
-        }
-        one_area(&mut boards, &mut report).map_err(|why| format!("area {place}, {why}"))?;
-        progress.tell(place);
-    }
-    progress.end();
+    runs::areas(count, seed, |boards| one_area(boards, &mut report))?;
     Ok(report)
 }
 

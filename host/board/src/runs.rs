@@ -81,3 +81,27 @@ pub fn first_difference(count: u64, seed: u64) -> Result<Tally, Finding> {
 pub fn random(count: u64, seed: u64) -> Result<Tally, Finding> {
     first_difference(count, seed).map_err(Finding::shortened)
 }
+
+/// Takes `count` areas of random boards, which the seed fixes, a few steps apart.
+///
+/// # Errors
+/// The first difference, in a few lines: between port and Rust on the way, with the shortest list
+/// found, or what `take` finds, with the area's number.
+pub fn areas(
+    count: u64,
+    seed: u64,
+    mut take: impl FnMut(&mut RandomBoards) -> Result<(), String>,
+) -> Result<(), String> {
+    let mut boards = RandomBoards::new(seed);
+    let mut progress = Progress::new(count);
+    for place in 0..count {
+        for _ in 0..boards.few() {
+            let done = boards.step();
+            done.map_err(|found| found.shortened().to_string())?;
+        }
+        take(&mut boards).map_err(|why| format!("area {place}, {why}"))?;
+        progress.tell(place);
+    }
+    progress.end();
+    Ok(())
+}
