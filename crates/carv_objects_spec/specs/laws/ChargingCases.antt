@@ -62,15 +62,15 @@ pub record Cases : Type 0 where
   -- sums up to 2^64 − 1 are covered, and none above
   pub largest : all (passes 1 (2 ^ 64 - 1) wide ∷ all-pass 1 ((2 ^ 63) ∷ (2 ^ 63 - 1) ∷ []) wide ∷ not (all-pass 1 ((2 ^ 63) ∷ (2 ^ 63) ∷ []) wide) ∷ not (passes 1 (2 ^ 64) wide) ∷ []) ≡ true
   -- lists: to the last byte, in another order, one byte more
-  pub lists : all (all-pass 4 (100 ∷ 200 ∷ 176 ∷ []) tree ∷ all-pass 4 (176 ∷ 0 ∷ 100 ∷ 200 ∷ []) tree ∷ not (all-pass 4 (100 ∷ 200 ∷ 177 ∷ []) tree) ∷ not (all-pass 4 (477 ∷ 0 ∷ []) tree)
+  pub lists : all (all-pass 4 (101 ∷ 200 ∷ 175 ∷ []) tree ∷ all-pass 4 (175 ∷ 0 ∷ 101 ∷ 200 ∷ []) tree ∷ not (all-pass 4 (101 ∷ 200 ∷ 176 ∷ []) tree) ∷ not (all-pass 4 (477 ∷ 0 ∷ []) tree)
       ∷ not (all-pass 4 (0 ∷ 477 ∷ 0 ∷ []) tree) ∷ all-pass 9 [] tree ∷ not (all-pass 9 (0 ∷ []) tree) ∷ []) ≡ true
   -- what they leave: a charge that fails does not end the list
-  pub left-by-lists : all (stands (left-by-all 4 (100 ∷ 200 ∷ 176 ∷ []) tree) 4 3 4_572 4_700 ∷ stands (left-by-all 4 (400 ∷ 100 ∷ 50 ∷ []) tree) 4 3 4_546 4_674
+  pub left-by-lists : all (stands (left-by-all 4 (101 ∷ 200 ∷ 175 ∷ []) tree) 4 3 4_572 4_700 ∷ stands (left-by-all 4 (400 ∷ 100 ∷ 50 ∷ []) tree) 4 3 4_546 4_674
       ∷ stands (left-by-all 4 [] tree) 4 3 4_096 4_224 ∷ []) ≡ true
   -- the first refusal: of 400, 100, 50 and of their sum; none; of a missing object
-  pub refusals : answers (first-refusal 4 (400 ∷ 100 ∷ 50 ∷ []) tree ∷ charge-more 4 550 tree .number ∷ first-refusal 4 (100 ∷ 200 ∷ 176 ∷ []) tree ∷ first-refusal 9 (0 ∷ 1 ∷ []) tree ∷ [])
+  pub refusals : answers (first-refusal 4 (400 ∷ 100 ∷ 50 ∷ []) tree ∷ charge-more 4 550 tree .number ∷ first-refusal 4 (101 ∷ 200 ∷ 175 ∷ []) tree ∷ first-refusal 9 (0 ∷ 1 ∷ []) tree ∷ [])
       (12 ∷ 12 ∷ 0 ∷ 7 ∷ []) ≡ true
-  pub sums : answers (sum (100 ∷ 200 ∷ 176 ∷ []) ∷ sum ((2 ^ 63) ∷ (2 ^ 63) ∷ []) ∷ sum [] ∷ []) (476 ∷ (2 ^ 64) ∷ 0 ∷ []) ≡ true
+  pub sums : answers (sum (101 ∷ 200 ∷ 175 ∷ []) ∷ sum ((2 ^ 63) ∷ (2 ^ 63) ∷ []) ∷ sum [] ∷ []) (476 ∷ (2 ^ 64) ∷ 0 ∷ []) ≡ true
   pub counts : answers (times 1 (1 ∷ 2 ∷ 1 ∷ []) ∷ times 2 (1 ∷ 2 ∷ 1 ∷ []) ∷ times 3 (1 ∷ 2 ∷ 1 ∷ []) ∷ times 3 [] ∷ times 0 (0 ∷ 1 ∷ 0 ∷ []) ∷ []) (2 ∷ 1 ∷ 0 ∷ 0 ∷ 2 ∷ []) ≡ true
   -- as many amounts, of the same sum, but other ones
   pub not-reordered : Reordered (1 ∷ 3 ∷ []) (2 ∷ 2 ∷ []) → ⊥
