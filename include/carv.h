@@ -4,8 +4,9 @@
  * target/staticlib/libcarv.a. Beside it only the C library is linked.
  *
  * docs/LAYOUT.md has the area byte by byte. The functions stand in crates/carv/src/lib.rt;
- * specs/C.antt there, and specs/Area.antt, specs/Creating.antt and specs/Image.antt of
- * crates/carv_scheduler, say what each is proved to return and to leave.
+ * specs/C.antt there, specs/Area.antt, specs/Creating.antt and specs/Image.antt of
+ * crates/carv_scheduler, and specs/Image.antt of crates/carv_register_image, say what each is
+ * proved to return and to leave.
  *
  * What is lent
  *

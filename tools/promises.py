@@ -8,11 +8,11 @@ names from the section "Demands" on; the columns "01 says" and "02 says" are lef
 
     File.name, scheduler/File.name     in specs/ or specs/laws/, File.antt of carv_objects_spec or carv_objects, carv_scheduler_spec or carv_scheduler; so are
                                        names in brackets
-    carv/File.name                     in specs/File.antt of carv
+    carv/File.name                     in specs/File.antt of carv; register_image/File.name in that of carv_register_image
     scheduler/File, carv/File          that there is such a file
     rust.name, some-name               in specs/ and proofs/Rules.antt of carv_budget
     module::f, scheduler/module::f     in src/module.rt of carv_objects, carv_scheduler
-    objects::f, scheduler::f           in src/lib.rt there, or passed on by it; carv_area::f, carv::f in these
+    objects::f, scheduler::f           in src/lib.rt there, or passed on by it; carv_area::f, carv_register_image::f, carv::f in these
     Type::name, struct T, enum T       in any src/; carv_name in carv; Mistake::X in host/board/tests/mistakes.rs
     objects/edit, objects_spec/edit .. in must-fail/ of the crate; bare names of the last column in carv_budget's
     replay_x, "x word" in "run by"     a program; the names behind "Rust:" there in host/oracle/tests, those behind a host/file.rs: tests in it
@@ -28,8 +28,8 @@ import re
 import sys
 
 ROOT = pathlib.Path(sys.argv[1] if len(sys.argv) > 1 else pathlib.Path(__file__).resolve().parent.parent)
-CRATE = {None: 'carv_objects', 'objects': 'carv_objects', 'objects_spec': 'carv_objects_spec', 'scheduler': 'carv_scheduler', 'carv': 'carv', 'scheduler_spec': 'carv_scheduler_spec', 'area': 'carv_area', 'carv_area': 'carv_area', 'replay_records': 'replay_records'}
-SPECS = {None: 'carv_objects*', 'scheduler': 'carv_scheduler*', 'carv': 'carv'}
+CRATE = {None: 'carv_objects', 'objects': 'carv_objects', 'objects_spec': 'carv_objects_spec', 'scheduler': 'carv_scheduler', 'carv': 'carv', 'scheduler_spec': 'carv_scheduler_spec', 'area': 'carv_area', 'carv_area': 'carv_area', 'register_image': 'carv_register_image', 'carv_register_image': 'carv_register_image', 'replay_records': 'replay_records'}
+SPECS = {None: 'carv_objects*', 'scheduler': 'carv_scheduler*', 'carv': 'carv', 'register_image': 'carv_register_image'}
 TICKED = re.compile(r'`([^`]+)`')
 
 
@@ -60,17 +60,17 @@ def entry(crate, name):
 
 # A form, and how a name of it is looked up.
 FORMS = [(re.compile(form), look) for form, look in [
-    (r'(?:(scheduler|carv)/)?([A-Z]\w*)\.(?!antt$)([^ /]+)', lambda c, f, n: defined(n, 'crates/%s/specs/**/%s.antt' % (SPECS[c], f))),
-    (r'(scheduler|carv)/([A-Z]\w*)', lambda c, f: exists('crates/%s/specs/**/%s.antt' % (SPECS[c], f))),
+    (r'(?:(scheduler|carv|register_image)/)?([A-Z]\w*)\.(?!antt$)([^ /]+)', lambda c, f, n: defined(n, 'crates/%s/specs/**/%s.antt' % (SPECS[c], f))),
+    (r'(scheduler|carv|register_image)/([A-Z]\w*)', lambda c, f: exists('crates/%s/specs/**/%s.antt' % (SPECS[c], f))),
     (r'rust\.([\w-]+)', lambda n: defined(n, 'crates/carv_budget/specs/Rust.antt')),
     (r'([a-z]\w*(?:-\w+)+)', lambda n: defined(n, 'crates/carv_budget/specs/**/*.antt') or defined(n, 'crates/carv_budget/proofs/Rules.antt')),
     (r'(Mistake::\w+)', lambda n: has(n + r'\b', text('host/board/tests/mistakes.rs'))),
     (r'[A-Z]\w*::(\w+)', lambda n: has(r'\b(?:fn|const) %s\b|^    %s\b' % (n, n), text('crates/*/src/*.rt'))),
-    (r'(objects|scheduler|carv_area|carv)::(\w+)', entry),
+    (r'(objects|scheduler|carv_area|carv_register_image|carv)::(\w+)', entry),
     (r'(?:(scheduler)/)?([a-z]\w*)::(\w+)', lambda c, m, n: function(n, 'crates/%s/src/%s.rt' % (CRATE[c], m))),
-    (r'(objects|objects_spec|scheduler_spec|scheduler|carv|area|replay_records)/([a-z]\w*)', lambda c, n: exists('crates/%s/must-fail/%s.edit' % (CRATE[c], n))),
+    (r'(objects|objects_spec|scheduler_spec|scheduler|carv|area|register_image|replay_records)/([a-z]\w*)', lambda c, n: exists('crates/%s/must-fail/%s.edit' % (CRATE[c], n))),
     (r'((?:struct|enum) \w+)', lambda n: has(n + r'\b', text('crates/*/src/*.rt'))),
-    (r'(carv_(?!area|budget|objects|scheduler)\w+)', lambda n: function(n, 'crates/carv/src/lib.rt')),
+    (r'(carv_(?!area|budget|objects|register_image|scheduler)\w+)', lambda n: function(n, 'crates/carv/src/lib.rt')),
     (r'(\w+\.rt)', lambda n: exists('crates/*/src/' + n)),
     (r'(replay_\w+)', lambda n: exists('crates/%s/src' % n)),
     (r'([^ ]+/[^ ]+)', lambda n: any((ROOT / base / n).exists() for base in ('', 'crates', 'crates/carv_budget'))),
@@ -104,7 +104,7 @@ def names(cell, column, crate):
         for program in re.findall(r'`(\w+) \w+`', cell):
             yield program, exists('host/*/src/bin/%s.rs' % program)
     fields = set()
-    for c, file, brackets in re.findall(r'`(?:(scheduler|carv)/)?([A-Z]\w*)\.[^`]+` \(([^)]*)\)', cell):
+    for c, file, brackets in re.findall(r'`(?:(scheduler|carv|register_image)/)?([A-Z]\w*)\.[^`]+` \(([^)]*)\)', cell):
         for field in re.findall(r'`([a-z][\w-]*)`', brackets):
             fields.add(field)
             yield '%s in %s of %s' % (field, file, CRATE[c or None]), defined(field, 'crates/%s/specs/**/%s.antt' % (SPECS[c or None], file))

@@ -20,7 +20,8 @@ use Rattle.carv_scheduler.specs.declared.Answer.{Answer}
 use Rattle.carv_scheduler.specs.Answer.{number, value}
 use Rattle.carv_scheduler_spec.specs.Scheduler.{Board, BoardReply, opening, of-registry}
 use Rattle.carv_scheduler.specs.Area.{decode, sound-area, Is}
-use Rattle.carv_scheduler.specs.Image.{register-image, Filled}
+use Rattle.carv_register_image.specs.Image.{register-image}
+use Rattle.carv_scheduler.specs.Image.{Filled}
 use Rattle.carv.specs.C.{reported, Opens, has-image, Made, Ensures, lent}
 use Rattle.carv_scheduler_spec.specs.Book as book
 use Rattle.carv_scheduler_spec.specs.Book.{Book, on-objects, plan}

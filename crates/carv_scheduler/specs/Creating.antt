@@ -9,7 +9,7 @@ use Rattle.carv_scheduler.specs.declared.Answer.{Answer}
 use Rattle.carv_scheduler.specs.declared.Answer.the-variants.{Done, Registry, NoSwitch, Switch, SwitchToKernel, Ended, EndedNothing, Blocked, NotBlocked, Record, Word, Cause, NoCause, Refused}
 use Rattle.carv_scheduler_spec.specs.Scheduler.{Board, BoardReply}
 use Rattle.carv_scheduler.specs.Area.{Answered}
-use Rattle.carv_scheduler.specs.Image.{image-size, register-image}
+use Rattle.carv_register_image.specs.Image.{image-size, register-image}
 use Rattle.carv_scheduler.specs.Answer.{number}
 
 abbrev pub done : Answer → Bool

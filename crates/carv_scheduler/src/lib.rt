@@ -90,12 +90,12 @@ pub fn create_user_thread(
 ) -> Answer
     ensures { λ r. ⌜ Created (create-user-thread id budget stack) (now (area .entry)) (now (image .entry)) r (now (area .exit)) (now (image .exit)) ⌝ }
 {
-    if image.len() != image::BYTES {
+    if image.len() != carv_register_image::BYTES {
         return Answer::Refused(refused::UNSOUND);
     }
     let answer = created(area, id, budget, stack);
     if is_done(answer) {
-        image::fill_image(image);
+        carv_register_image::fill_image(image);
     }
     answer
 }

@@ -107,7 +107,12 @@ pub(crate) fn fill_image(image: &mut [u8]) -> u64 {
     if image.len() != IMAGE_BYTES {
         return 1;
     }
-    image.fill(0);
+    let end = if planted(Mistake::ImageWithoutItsLastStep) {
+        IMAGE_BYTES - 8
+    } else {
+        IMAGE_BYTES
+    };
+    image[..end].fill(0);
     for (place, byte) in [
         (0, 0x7f),
         (1, 0x03),
@@ -120,6 +125,11 @@ pub(crate) fn fill_image(image: &mut [u8]) -> u64 {
     }
     if planted(Mistake::ImageOfOtherBytes) {
         image[28] = 0xff;
+    }
+    if planted(Mistake::ImageWordsExchanged) {
+        for place in 0..8 {
+            image.swap(place, 24 + place);
+        }
     }
     0
 }

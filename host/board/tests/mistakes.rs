@@ -178,6 +178,8 @@ fn random_lists_find_mistakes_in_what_is_lent() {
         Mistake::ImageNotFilled,
         Mistake::ImageOnRefusal,
         Mistake::ImageOfOtherBytes,
+        Mistake::ImageWordsExchanged,
+        Mistake::ImageWithoutItsLastStep,
     ] {
         random_lists_find(mistake);
     }

@@ -11,6 +11,7 @@ use lib.ListN.{length, getD}
 use borrow.Author.Tests.{eqb-true, eqb-false, eq-eqb, ne-eqb}
 use Rattle.carv_area.specs.Table.{Row, at}
 use Rattle.carv_area.specs.laws.Table.{test}
+use Rattle.carv_area.specs.laws.Parts.{part-bytes}
 use Rattle.carv_budget.specs.Account.{free}
 use Rattle.carv_objects_spec.specs.declared.Entry.{Entry}
 use Rattle.carv_objects_spec.specs.Reply.{Value}
@@ -25,7 +26,6 @@ use Rattle.carv_objects_spec.specs.laws.Charging as charging
 use Rattle.carv_objects_spec.specs.laws.Questions as asks
 use Rattle.carv_objects_spec.specs.laws.SoundLaws.{sound-shown}
 use Rattle.carv_objects.specs.laws.Rows.{no-row}
-use Rattle.carv_objects.specs.laws.AreaExact.{part-bytes}
 use Rattle.carv_objects.specs.laws.Calls as registry-calls
 use Rattle.carv_objects.specs.laws.CallSteps.{limit-fits}
 use Rattle.carv_scheduler_spec.specs.Scheduler.{Board, with-registry, lift-value}

@@ -23,7 +23,8 @@ use mathlib.Core.Option.{Option, none, some}
 use Rattle.carv_objects.specs.declared.Answer as registry-answers
 use Rattle.carv_objects.specs.declared.Answer.the-variants as registry-answer
 use Rattle.carv_objects.specs.Answer as registry-numbers
-use Rattle.carv_scheduler.specs.Image.{register-image, Filled}
+use Rattle.carv_register_image.specs.Image.{register-image}
+use Rattle.carv_scheduler.specs.Image.{Filled}
 use Rattle.carv_scheduler.specs.laws.AreaExact.{exact}
 use Rattle.carv_scheduler_spec.specs.Demand1.{renewal-left, with-renewal}
 use Rattle.carv_scheduler_spec.specs.laws.Demand1.{leaves, one-renews-not}

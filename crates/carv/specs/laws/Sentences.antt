@@ -35,7 +35,8 @@ use Rattle.carv_objects_spec.specs.Runs.{line}
 use Rattle.carv_scheduler.specs.Answer.{number, value}
 use Rattle.carv_scheduler.specs.Area.{decode, sound-area}
 use Rattle.carv_scheduler.specs.laws.AreaLaws.{area-sound}
-use Rattle.carv_scheduler.specs.Image.{register-image, Filled}
+use Rattle.carv_register_image.specs.Image.{register-image}
+use Rattle.carv_scheduler.specs.Image.{Filled}
 use Rattle.carv_scheduler_spec.specs.Scheduler.{Board, BoardReply, opening}
 use Rattle.carv_scheduler_spec.specs.Book.{Call, on-objects, create-user-thread, start, block-current, wake, is-blocked-on, kill, tick, plan, read-thread, read-current, read-switches, exit-of}
 use Rattle.carv_scheduler_spec.specs.Runs.{run}

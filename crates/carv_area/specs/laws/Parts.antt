@@ -1,11 +1,13 @@
--- The laws of `Parts`: a part after another part is put in, and a list cut into parts. Assumes nothing.
+-- The laws of `Parts`: a part after another part is put in, a list cut into parts, and parts of bytes. Assumes nothing.
 use Prim.Native.Nat.{ℕ, _+_, _-_, _≤_, _<_}
 use native.Mathlib.Omega.{arith}
 use mathlib.Core.Path.{_≡_, sym, ap, _∙_}
+use mathlib.Core.Logic.{⊎-elim}
 use mathlib.Core.List.{List, _++_, append-assoc}
-use lib.ListN.{length, take, drop, length-append, length-drop, take-append-drop}
-use lib.Seq.{take-at, drop-at, length-take-le, drop-drop, take-append-le, drop-append-le, take-all, ext-getD, getD-take, getD-drop}
+use lib.ListN.{length, getD, take, drop, length-append, length-drop, take-append-drop, List·getD-append, List·getD-eq-default}
+use lib.Seq.{take-at, drop-at, length-take-le, drop-drop, take-append-le, drop-append-le, take-all, ext-getD, getD-take, getD-drop, getD-append-add}
 use Rattle.carv_area.specs.Parts.{part, putPart}
+use Rattle.carv_area.specs.laws.Lists.{lt-or-ge}
 
 -- the length of a part
 pub length-part : (f n : ℕ) (l : List ℕ) → f + n ≤ length l → length (part f n l) ≡ n
@@ -49,3 +51,25 @@ module _ (f n : ℕ) (l p : List ℕ) (h : f + n ≤ length l) (k : length p ≡
       ∙ drop-drop n f l) in
       ap (take m) (ap (λ (x : ℕ). drop x (putPart f n l p)) (sym e) ∙ sym (drop-drop (g - (f + n)) (f + n) (putPart f n l p)) ∙ ap (drop (g - (f + n))) d
       ∙ drop-drop (g - (f + n)) (f + n) l ∙ ap (λ (x : ℕ). drop x l) e)
+
+-- a part of bytes is bytes
+pub part-bytes : (f n : ℕ) (a : List ℕ) → f + n ≤ length a → ((i : ℕ) → getD a i 0 < 256) → (i : ℕ) → getD (part f n a) i 0 < 256
+part-bytes f n a h b i = ⊎-elim
+    (λ (l : i < n). rw (getD-take n (drop f a) i 0 l, getD-drop f a i 0) (b (f + i)))
+    (λ (l : n ≤ i). rw (List·getD-eq-default (part f n a) 0 {n = i} (rw (length-part f n a h) l)) (omega arith))
+    (lt-or-ge i n)
+
+-- bytes behind bytes are bytes
+append-bytes : (p q : List ℕ) → ((i : ℕ) → getD p i 0 < 256) → ((i : ℕ) → getD q i 0 < 256) → (i : ℕ) → getD (p ++ q) i 0 < 256
+append-bytes p q x y i = ⊎-elim
+    (λ (l : i < length p). rw (List·getD-append p q 0 i l) (x i))
+    (λ (l : length p ≤ i).
+    let e : i ≡ length p + (i - length p) = omega arith in
+    rw (e, getD-append-add p q (i - length p) 0) (y (i - length p)))
+    (lt-or-ge i (length p))
+
+-- bytes with other bytes in the place of a part are bytes
+pub put-bytes : (f n : ℕ) (l p : List ℕ) → f + n ≤ length l → ((i : ℕ) → getD l i 0 < 256) → ((i : ℕ) → getD p i 0 < 256) → (i : ℕ) → getD (putPart f n l p) i 0 < 256
+put-bytes f n l p h x y =
+    append-bytes (take f l) (p ++ drop n (drop f l)) (part-bytes 0 f l (omega arith) x)
+    (append-bytes p (drop n (drop f l)) y (λ i. rw (getD-drop n (drop f l) i 0, getD-drop f l (n + i) 0) (x (f + (n + i)))))

@@ -1,31 +1,22 @@
 -- A sound area is determined by its registry: two with the same registry have the same bytes. Assumes nothing.
 use mathlib.Core.Path.{_≡_, sym, ap, _∙_}
-use mathlib.Core.Logic.{⊎-elim}
 use mathlib.Core.Bool.{true}
 use mathlib.Core.List.{List, _++_}
-use Prim.Native.Nat.{ℕ, _+_, _≤_, _<_}
+use Prim.Native.Nat.{ℕ, _<_}
 use native.Mathlib.Omega.{arith}
-use lib.ListN.{length, getD, drop, List·getD-eq-default}
-use lib.Seq.{ext-getD, getD-take, getD-drop}
+use lib.ListN.{length, getD}
+use lib.Seq.{ext-getD}
 use Rattle.carv_area.specs.Table.{Row}
-use Rattle.carv_area.specs.laws.Lists.{lt-or-ge}
 use Rattle.carv_area.specs.Words.{words}
 use Rattle.carv_area.specs.laws.Words.{length-words, words-inj}
 use Rattle.carv_area.specs.Parts.{part}
-use Rattle.carv_area.specs.laws.Parts.{length-part, cut, last}
+use Rattle.carv_area.specs.laws.Parts.{length-part, cut, last, part-bytes}
 use Rattle.carv_area.specs.Rows.{Holds}
 use Rattle.carv_area.specs.laws.Rows.{holds-inj}
 use Rattle.carv_objects_spec.specs.declared.Entry.{Entry}
 use Rattle.carv_objects_spec.specs.Registry.{Registry}
 use Rattle.carv_objects.specs.Area.{head, table, fields, decode, sound-area}
 use Rattle.carv_objects.specs.laws.AreaLaws.{wide, table-size, sound-formed}
-
--- a part of bytes is bytes
-pub part-bytes : (f n : ℕ) (a : List ℕ) → f + n ≤ length a → ((i : ℕ) → getD a i 0 < 256) → (i : ℕ) → getD (part f n a) i 0 < 256
-part-bytes f n a h b i = ⊎-elim
-    (λ (l : i < n). rw (getD-take n (drop f a) i 0 l, getD-drop f a i 0) (b (f + i)))
-    (λ (l : n ≤ i). rw (List·getD-eq-default (part f n a) 0 {n = i} (rw (length-part f n a h) l)) (omega arith))
-    (lt-or-ge i n)
 
 -- bytes of the area's length are its two parts
 parts : (a : List ℕ) → length a ≡ 45_072 → a ≡ head a ++ table a

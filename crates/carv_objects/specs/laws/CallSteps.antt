@@ -16,6 +16,7 @@ use Rattle.carv_area.specs.Table.{Row, Rising, at, alter}
 use Rattle.carv_area.specs.laws.Table.{test, alter-known, erase-alter, length-alter}
 use Rattle.carv_area.specs.Words.{words}
 use Rattle.carv_area.specs.laws.Words.{word-below}
+use Rattle.carv_area.specs.laws.Parts.{part-bytes}
 use Rattle.carv_area.specs.Rows.{removeAt}
 use Rattle.carv_area.specs.Keys.{findIn}
 use Rattle.carv_area.specs.laws.Keys.{find-there}
@@ -40,7 +41,6 @@ use Rattle.carv_objects_spec.specs.laws.Refines.{return-blank}
 use Rattle.carv_objects.specs.Area.{table, decode, sound-area, Serves}
 use Rattle.carv_objects.specs.laws.Rows.{no-row, row-at-is}
 use Rattle.carv_objects.specs.laws.Formed.{WellFormed, Leaves, leaves-as}
-use Rattle.carv_objects.specs.laws.AreaExact.{part-bytes}
 use Rattle.carv_objects.specs.laws.AreaSteps.{with-rows, here-entry, here-has, here-budget, here-other}
 use Rattle.carv_objects.specs.laws.Calls.{area-sound, area-formed, refused, answered, budget-by, account-here, kept-at}
 use Rattle.carv_objects_spec.specs.laws.Questions as asks

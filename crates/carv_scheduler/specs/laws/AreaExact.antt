@@ -9,12 +9,11 @@ use lib.Seq.{ext-getD}
 use Rattle.carv_area.specs.Words.{words}
 use Rattle.carv_area.specs.laws.Words.{length-words, words-inj}
 use Rattle.carv_area.specs.Parts.{part}
-use Rattle.carv_area.specs.laws.Parts.{length-part, cut, last}
+use Rattle.carv_area.specs.laws.Parts.{length-part, cut, last, part-bytes}
 use Rattle.carv_area.specs.laws.Rows.{holds-inj}
 use Rattle.carv_area.specs.Stored.{Stored, one}
 use Rattle.carv_area.specs.laws.Stored.{wide-one}
 use Rattle.carv_objects.specs.laws.AreaExact as objects
-use Rattle.carv_objects.specs.laws.AreaExact.{part-bytes}
 use Rattle.carv_scheduler.specs.declared.Answer.{Answer}
 use Rattle.carv_scheduler_spec.specs.Scheduler.{Board, BoardReply}
 use Rattle.carv_scheduler.specs.Area.{registry-part, head, threads-part, queue-part, exits-part, thread-fields, exit-fields, decode, sound-area, Serves}

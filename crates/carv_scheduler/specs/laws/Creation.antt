@@ -9,7 +9,7 @@ use Rattle.carv_scheduler.specs.declared.Answer.{Answer}
 use Rattle.carv_scheduler.specs.declared.Answer.the-variants.{Refused}
 use Rattle.carv_scheduler_spec.specs.Scheduler.{Board, BoardReply}
 use Rattle.carv_scheduler.specs.Area.{Answered}
-use Rattle.carv_scheduler.specs.Image.{register-image}
+use Rattle.carv_register_image.specs.Image.{register-image}
 use Rattle.carv_scheduler.specs.Creating.{Created, Plain, done}
 
 module _ (call : Board → BoardReply) (a m : List ℕ) where

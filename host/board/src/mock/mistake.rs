@@ -106,6 +106,8 @@ pub enum Mistake {
     ImageNotFilled,
     ImageOnRefusal,
     ImageOfOtherBytes,
+    ImageWordsExchanged,
+    ImageWithoutItsLastStep,
     AnswerLengthNotAsked,
     ImageLengthNotAsked,
     // Of question 1.
