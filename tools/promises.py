@@ -9,7 +9,7 @@ names from the section "Demands" on; the columns "01 says" and "02 says" are lef
     File.name, scheduler/File.name     in specs/ or specs/laws/, File.antt of carv_objects_spec or carv_objects, carv_scheduler_spec or carv_scheduler; so are
                                        names in brackets
     carv/File.name                     in specs/File.antt of carv; register_image/File.name in that of carv_register_image
-    scheduler/File, carv/File          that there is such a file
+    scheduler/File, carv/File, register_image/File     that there is such a file
     rust.name, some-name               in specs/ and proofs/Rules.antt of carv_budget
     module::f, scheduler/module::f     in src/module.rt of carv_objects, carv_scheduler
     objects::f, scheduler::f           in src/lib.rt there, or passed on by it; carv_area::f, carv_register_image::f, carv::f in these
@@ -70,7 +70,7 @@ FORMS = [(re.compile(form), look) for form, look in [
     (r'(?:(scheduler)/)?([a-z]\w*)::(\w+)', lambda c, m, n: function(n, 'crates/%s/src/%s.rt' % (CRATE[c], m))),
     (r'(objects|objects_spec|scheduler_spec|scheduler|carv|area|register_image|replay_records)/([a-z]\w*)', lambda c, n: exists('crates/%s/must-fail/%s.edit' % (CRATE[c], n))),
     (r'((?:struct|enum) \w+)', lambda n: has(n + r'\b', text('crates/*/src/*.rt'))),
-    (r'(carv_(?!area|budget|objects|register_image|scheduler)\w+)', lambda n: function(n, 'crates/carv/src/lib.rt')),
+    (r'(carv_(?!(?:area|budget|objects|objects_spec|register_image|scheduler|scheduler_spec)$)\w+)', lambda n: function(n, 'crates/carv/src/lib.rt')),
     (r'(\w+\.rt)', lambda n: exists('crates/*/src/' + n)),
     (r'(replay_\w+)', lambda n: exists('crates/%s/src' % n)),
     (r'([^ ]+/[^ ]+)', lambda n: any((ROOT / base / n).exists() for base in ('', 'crates', 'crates/carv_budget'))),

@@ -21,7 +21,7 @@ LAWS = {
     'carv_board': 'SoundFacts Reading SoundLaws Steps Switching Kept Questions Refines Following History Demand2 Demand3 Edges',
     'carv_objects': 'Rows Formed AreaSteps AreaLaws SoundWalk SoundPlace SoundTurn SoundBridge AreaExact Booked Calls CallSteps Cpu Opening Entry',
     'carv_scheduler': 'Rows Formed AreaSteps Room AreaLaws AreaExact Calls RowWords Places CallSteps OnRegistry Entry Opening Waking Ticking Walk '
-        'Planning PlanSteps ExitSteps KillSteps ImageSteps SoundWalk SoundThread SoundRows SoundStates SoundQueue SoundLog SoundBridge',
+        'Planning PlanSteps ExitSteps KillSteps ImageSteps>ImageCall SoundWalk SoundThread SoundRows SoundStates SoundQueue SoundLog SoundBridge',
     'carv': 'Reporting',
 }
 LAWS = {crate: dict((m.split('>') * 2)[:2] for m in modules.split()) for crate, modules in LAWS.items()}

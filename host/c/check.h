@@ -11,7 +11,7 @@
 #include <string.h>
 
 /* What is lent. There is more than that on both sides, and the area starts at an odd address. */
-enum { SPARE = 9 };
+enum { SPARE = 65 };
 static uint8_t area_room[CARV_AREA_BYTES + 2 * SPARE];
 static uint8_t image_room[CARV_IMAGE_BYTES + 2 * SPARE];
 static uint64_t out_room[CARV_ANSWER_WORDS + 2 * SPARE];

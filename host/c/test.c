@@ -74,6 +74,8 @@ static void lengths(void) {
     REFUSED(CARV_REFUSED_SHARE, carv_open(AREA, UINT64_MAX, 0, OUT));
     REFUSED(n, carv_create_user_thread(AREA, 7, 1, true, image, CARV_IMAGE_BYTES - 1, OUT));
     REFUSED(n, carv_create_user_thread(AREA, 7, 1, true, image, CARV_IMAGE_BYTES + 1, OUT));
+    REFUSED(n, carv_create_user_thread(AREA, 0, 1, false, image, CARV_IMAGE_BYTES - 1, OUT));
+    REFUSED(n, carv_create_user_thread(AREA, 0, 1, false, image, 0, OUT));
 }
 
 /* The image call. */

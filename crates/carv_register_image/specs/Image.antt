@@ -12,15 +12,14 @@ image-size = 512
 unfoldable pub register-image : List ℕ
 register-image = set (set (set (set (set (set (replicate image-size 0) 0 0x7f) 1 0x03) 24 0x80) 25 0x1f) 28 0xbf) 29 0xff
 
+-- "eight bytes in each step": 512 bytes m, with the image's eight bytes of step k, from 1, in their place. Every other byte stays
+unfoldable pub eight-written : (k : ℕ) (m : List ℕ) → List ℕ
+eight-written k m = putPart ((k - 1) * 8) 8 m (part ((k - 1) * 8) 8 register-image)
+
 -- "after step k of 64 its first 8k bytes are final and the others as lent"
 unfoldable pub after-step : (k : ℕ) (lent : List ℕ) → List ℕ
 after-step k lent = take (k * 8) register-image ++ drop (k * 8) lent
 
--- "eight bytes in each step": of any bytes m, step k, from 1, puts the image's eight before byte 8k in their place, and every other byte stays
-unfoldable pub stepped : (k : ℕ) (m : List ℕ) → List ℕ
-stepped k m = putPart ((k - 1) * 8) 8 m (part ((k - 1) * 8) 8 register-image)
-
--- Step k of 64 on the bytes m, which leaves m′: eight bytes, whatever m is; and where step k - 1 left m, what is to be after step k
-pub record Step (k : ℕ) (m m′ : List ℕ) : Type 0 where
-  pub eight : m′ ≡ stepped k m
-  pub after : (lent : List ℕ) → m ≡ after-step (k - 1) lent → m′ ≡ after-step k lent
+-- in m steps 1 to k are made: "its first 8k bytes are final"
+unfoldable pub Made : (k : ℕ) (m : List ℕ) → Type 0
+Made k m = take (k * 8) m ≡ take (k * 8) register-image

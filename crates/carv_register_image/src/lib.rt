@@ -3,7 +3,7 @@ ghost use mathlib.Core.Path.{_≡_};
 ghost use Prim.Native.Nat.{_-_, _≤_};
 ghost use lib.ListN.{length, getD};
 ghost use Rattle.carv_area.specs.Words.{words};
-ghost use Rattle.carv_register_image.specs.Image.{register-image, Step};
+ghost use Rattle.carv_register_image.specs.Image.{register-image, eight-written, after-step, Made};
 
 pub const BYTES: usize = 512;
 
@@ -20,14 +20,37 @@ fn word_at(i: usize) -> u64
     }
 }
 
-// Step k of 64, from 1: the image's word number k - 1, in one store.
-fn step(image: &mut [u8], k: usize, word: u64)
+// Writes the eight bytes of step k of 64, from 1, as the word that they are. Compiled alone it is one 64-bit store.
+fn write_eight(image: &mut [u8], k: usize, word: u64)
     requires { ⌜ length (now image) ≡ 512 ⌝ }
     requires { ⌜ (1 ≤ k) × (k ≤ 64) ⌝ }
     requires { ⌜ word ≡ getD (words register-image) (k - 1) 0 ⌝ }
-    ensures { λ _. ⌜ Step k (now (image .entry)) (now (image .exit)) ⌝ }
+    ensures { λ _. ⌜ now (image .exit) ≡ eight-written k (now (image .entry)) ⌝ }
 {
     carv_area::put(image, k - 1, word);
+}
+
+// Step k of 64, from 1, where the steps before it are made.
+fn step(image: &mut [u8], k: usize)
+    requires { ⌜ length (now image) ≡ 512 ⌝ }
+    requires { ⌜ (1 ≤ k) × (k ≤ 64) ⌝ }
+    requires { ⌜ Made (k - 1) (now image) ⌝ }
+    ensures { λ _. ⌜ now (image .exit) ≡ after-step k (now (image .entry)) ⌝ }
+{
+    write_eight(image, k, word_at(k - 1));
+}
+
+// Steps 1 to n of 64.
+fn steps(image: &mut [u8], n: usize)
+    requires { ⌜ length (now image) ≡ 512 ⌝ }
+    requires { ⌜ n ≤ 64 ⌝ }
+    ensures { λ _. ⌜ now (image .exit) ≡ after-step n (now (image .entry)) ⌝ }
+{
+    let mut k = 0;
+    while k < n {
+        k += 1;
+        step(image, k);
+    }
 }
 
 // All steps.
@@ -35,9 +58,5 @@ pub fn fill_image(image: &mut [u8])
     requires { ⌜ length (now image) ≡ 512 ⌝ }
     ensures { λ _. ⌜ now (image .exit) ≡ register-image ⌝ }
 {
-    let mut k = 0;
-    while k < STEPS {
-        k += 1;
-        step(image, k, word_at(k - 1));
-    }
+    steps(image, STEPS);
 }

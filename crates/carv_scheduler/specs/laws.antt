@@ -20,7 +20,7 @@ pub mod Planning
 pub mod PlanSteps
 pub mod ExitSteps
 pub mod KillSteps
-pub mod ImageSteps
+pub mod ImageCall
 pub mod SoundWalk
 pub mod SoundThread
 pub mod SoundRows

@@ -105,8 +105,16 @@ fn answer_fits(out: &[u64]) -> bool {
 /// See [`Port::fill_image`].
 pub(crate) fn fill_image(image: &mut [u8]) -> u64 {
     if image.len() != IMAGE_BYTES {
-        return 1;
+        return u64::from(!planted(Mistake::ImageCallLengthNotAsked));
     }
+    if !planted(Mistake::ImageCallFillsNothing) {
+        fill(image);
+    }
+    0
+}
+
+/// The image of a new thread, in bytes of its length.
+fn fill(image: &mut [u8]) {
     let end = if planted(Mistake::ImageWithoutItsLastStep) {
         IMAGE_BYTES - 8
     } else {
@@ -131,7 +139,6 @@ pub(crate) fn fill_image(image: &mut [u8]) -> u64 {
             image.swap(place, 24 + place);
         }
     }
-    0
 }
 
 /// See [`Port::is_sound`].
@@ -152,13 +159,17 @@ pub(crate) fn make(call: Call, Port { area, out, image }: &mut Port) -> u64 {
 }
 
 fn create_user_thread(lent: Lent, id: u64, budget: u64, stack: bool, image: &mut [u8]) -> u64 {
-    if image.len() != IMAGE_BYTES && !planted(Mistake::ImageLengthNotAsked) {
+    let fits = image.len() == IMAGE_BYTES;
+    if !fits && planted(Mistake::ImageWrittenAtAnotherLength) {
+        image.fill(0);
+    }
+    if !fits && !planted(Mistake::ImageLengthNotAsked) {
         return 1;
     }
     let number = lent.serve(|model| model.create_user_thread(id, budget, stack));
     let accepted = number == 0 && !planted(Mistake::ImageNotFilled);
-    if accepted || planted(Mistake::ImageOnRefusal) {
-        fill_image(image);
+    if fits && (accepted || planted(Mistake::ImageOnRefusal)) {
+        fill(image);
     }
     number
 }

@@ -180,6 +180,7 @@ fn random_lists_find_mistakes_in_what_is_lent() {
         Mistake::ImageOfOtherBytes,
         Mistake::ImageWordsExchanged,
         Mistake::ImageWithoutItsLastStep,
+        Mistake::ImageCallFillsNothing,
     ] {
         random_lists_find(mistake);
     }
@@ -234,6 +235,8 @@ fn damaged_areas_find_mistakes_in_question_1() {
         Mistake::PayerKindNotAsked,
         Mistake::AnswerLengthNotAsked,
         Mistake::ImageLengthNotAsked,
+        Mistake::ImageCallLengthNotAsked,
+        Mistake::ImageWrittenAtAnotherLength,
         Mistake::ThreadIdsNotAsked,
         Mistake::StatesNotAsked,
         Mistake::WaitsNotAsked,

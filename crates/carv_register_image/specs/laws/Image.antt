@@ -1,4 +1,4 @@
--- The steps that write the register image: its words, what each step leaves, and that the last leaves the image. Assumes nothing.
+-- The register image and the steps that write it: its words, what is after each step, what one step writes, and that the last leaves the image. Assumes nothing.
 use mathlib.Core.Path.{_≡_, refl, sym, ap, _∙_}
 use mathlib.Core.Bool.{Bool, true, false, _&&_, false≢true}
 use mathlib.Core.Logic.{_≢_, ⊎-elim}
@@ -14,8 +14,8 @@ use Rattle.carv_area.specs.laws.Lists.{lt-or-ge}
 use Rattle.carv_area.specs.Words.{value, word, words, Writes}
 use Rattle.carv_area.specs.laws.Words.{length-words, words-inj, words-part, words-put}
 use Rattle.carv_area.specs.Parts.{part, putPart}
-use Rattle.carv_area.specs.laws.Parts.{length-part, length-put, part-bytes, put-bytes}
-use Rattle.carv_register_image.specs.Image.{register-image, after-step, stepped, Step}
+use Rattle.carv_area.specs.laws.Parts.{length-part, length-put, part-same, part-bytes, put-bytes}
+use Rattle.carv_register_image.specs.Image.{register-image, eight-written, after-step, Made}
 
 -- ---- the image
 
@@ -60,7 +60,7 @@ image-bytes = byte-at register-image refl
     byte-at (x ∷ l) e zero = ltb-true x 256 (both (ltb x 256) (are-bytes l) e .0)
     byte-at (x ∷ l) e (suc j) = byte-at l (both (ltb x 256) (are-bytes l) e .1) j
 
--- ---- what the steps leave
+-- ---- after the steps
 
 -- before the first, the lent bytes
 pub after-none : (lent : List ℕ) → after-step 0 lent ≡ lent
@@ -72,14 +72,26 @@ module _ (k : ℕ) (h : k ≤ 64) (lent : List ℕ) where
   front = length-take-le (k * 8) register-image (omega (arith, length-image))
 
   -- "its first 8k bytes are final"
-  pub final : take (k * 8) (after-step k lent) ≡ take (k * 8) register-image
-  unfolding after-step
+  pub final : Made k (after-step k lent)
+  unfolding after-step Made
   final = take-at (take (k * 8) register-image) (drop (k * 8) lent) (k * 8) front
 
   -- "and the others as lent"
   pub as-lent : drop (k * 8) (after-step k lent) ≡ drop (k * 8) lent
   unfolding after-step
   as-lent = drop-at (take (k * 8) register-image) (drop (k * 8) lent) (k * 8) front
+
+-- the steps so far are made, and one step more is made of the same lent bytes
+module _ (k : ℕ) (h : k < 64) (lent m : List ℕ) (e : m ≡ after-step k lent) where
+  pub so-far : Made k m
+  so-far = rw e (final k (omega arith) lent)
+
+  pub one-more : after-step (k + 1) m ≡ after-step (k + 1) lent
+  unfolding after-step
+  one-more =
+      let n : (k + 1) * 8 ≡ k * 8 + 8 = omega arith in
+      let d : drop (k * 8) m ≡ drop (k * 8) lent = ap (drop (k * 8)) e ∙ as-lent k (omega arith) lent in
+      ap (λ (l : List ℕ). take ((k + 1) * 8) register-image ++ l) (rw (n, ← (drop-drop 8 (k * 8) m), ← (drop-drop 8 (k * 8) lent)) (ap (drop 8) d))
 
 -- after the last, the image
 pub after-all : (lent : List ℕ) → length lent ≡ 512 → after-step 64 lent ≡ register-image
@@ -92,52 +104,62 @@ after-all lent z =
     nothing-left [] e = refl
     nothing-left (x ∷ l) e = absurd (omega arith)
 
--- ---- one step, that of word number i
+-- ---- one step
 
-module _ (i : ℕ) (h : i < 64) (m : List ℕ) (z : length m ≡ 512) where
+module _ (k : ℕ) (a : 1 ≤ k) (b : k ≤ 64) where
+  -- its eight bytes end at byte 8k
+  ends : (k - 1) * 8 + 8 ≡ k * 8
+  ends = omega arith
+
   -- the image's eight bytes
   abbrev own : List ℕ
-  own = part (i * 8) 8 register-image
+  own = part ((k - 1) * 8) 8 register-image
 
   length-own : length own ≡ 8
-  length-own = length-part (i * 8) 8 register-image (omega (arith, length-image))
+  length-own = length-part ((k - 1) * 8) 8 register-image (omega (arith, length-image))
 
-  -- the words of m with these in their place
-  own-word : words (putPart (i * 8) 8 m own) ≡ set (words m) i (getD (words register-image) i 0)
-  own-word =
-      let a : i < length (words register-image) = omega (arith, length-words register-image, length-image) in
-      let b : i < length (words m) = omega (arith, length-words m) in
-      words-put m i 1 (omega arith) own length-own
-      ∙ rw (words-part register-image i 1 (omega (arith, length-image)), drop-cons (words register-image) i 0 a, drop-cons (words m) i 0 b)
-      (sym (set-split (words m) i (getD (words register-image) i 0) b))
+  -- where the steps before it are made, writing them is step k
+  pub step-is : (m : List ℕ) → Made (k - 1) m → eight-written k m ≡ after-step k m
+  unfolding eight-written after-step Made
+  step-is m e =
+      rw (e, drop-drop 8 ((k - 1) * 8) m, ← ends, take-add ((k - 1) * 8) 8 register-image)
+      (sym (append-assoc (take ((k - 1) * 8) register-image) own (drop ((k - 1) * 8 + 8) m)))
 
-  -- a store of the image's word leaves them in their place
-  stored : (m′ : List ℕ) → length m′ ≡ 512 → ((j : ℕ) → getD m j 0 < 256) → ((j : ℕ) → getD m′ j 0 < 256)
-      → words m′ ≡ set (words m) i (getD (words register-image) i 0) → m′ ≡ putPart (i * 8) 8 m own
-  stored m′ z′ b b′ w =
-      words-inj m′ (putPart (i * 8) 8 m own) b′
-      (put-bytes (i * 8) 8 m own (omega arith) b (part-bytes (i * 8) 8 register-image (omega (arith, length-image)) image-bytes))
-      (omega arith) (z′ ∙ sym (length-put (i * 8) 8 m own (omega arith) length-own ∙ z)) (w ∙ sym own-word)
+  module _ (m : List ℕ) (z : length m ≡ 512) where
+    before : length (take ((k - 1) * 8) m) ≡ (k - 1) * 8
+    before = length-take-le ((k - 1) * 8) m (omega arith)
 
-  -- and that is one step more
-  one-more : (lent : List ℕ) → m ≡ after-step i lent → putPart (i * 8) 8 m own ≡ after-step (i + 1) lent
-  unfolding after-step
-  one-more lent e =
-      let f : take (i * 8) m ≡ take (i * 8) register-image = ap (take (i * 8)) e ∙ final i (omega arith) lent in
-      let g : drop (i * 8) m ≡ drop (i * 8) lent = ap (drop (i * 8)) e ∙ as-lent i (omega arith) lent in
-      let n : (i + 1) * 8 ≡ i * 8 + 8 = omega arith in
-      rw (f, g, drop-drop 8 (i * 8) lent, n, take-add (i * 8) 8 register-image)
-      (sym (append-assoc (take (i * 8) register-image) (take 8 (drop (i * 8) register-image)) (drop (i * 8 + 8) lent)))
+    -- of what is written, the bytes before the eight stay, the eight are the image's, the bytes behind them stay
+    pub before-stays : take ((k - 1) * 8) (eight-written k m) ≡ take ((k - 1) * 8) m
+    unfolding eight-written
+    before-stays = take-at (take ((k - 1) * 8) m) (own ++ drop 8 (drop ((k - 1) * 8) m)) ((k - 1) * 8) before
 
--- `step`
-pub step-of : (k : ℕ) → 1 ≤ k → k ≤ 64 → (m m′ : List ℕ) → length m ≡ 512 → length m′ ≡ 512 → ((j : ℕ) → getD m j 0 < 256) → ((j : ℕ) → getD m′ j 0 < 256)
-    → (i v : ℕ) → i ≡ k - 1 → v ≡ getD (words register-image) i 0 → Writes m m′ (set (words m) i v) → Step k m m′
-unfolding stepped
-step-of k a b m m′ z z′ x x′ i v n e w =
-    let h : i < 64 = omega arith in
-    let eight : m′ ≡ putPart (i * 8) 8 m (own i h m z) = stored i h m z m′ z′ x x′ (w .words ∙ ap (set (words m) i) e) in
-    let s : i + 1 ≡ k = omega arith in
-    record {
-      eight = rw (← n) eight;
-      after = λ lent l. eight ∙ one-more i h m z lent (rw n l) ∙ ap (λ (j : ℕ). after-step j lent) s;
-    }
+    pub eight-final : part ((k - 1) * 8) 8 (eight-written k m) ≡ part ((k - 1) * 8) 8 register-image
+    unfolding eight-written
+    eight-final = part-same ((k - 1) * 8) 8 m own (omega arith) length-own
+
+    pub behind-stays : drop (k * 8) (eight-written k m) ≡ drop (k * 8) m
+    unfolding eight-written
+    behind-stays =
+        rw (← ends, ← (drop-drop 8 ((k - 1) * 8) m), ← (drop-drop 8 ((k - 1) * 8) (putPart ((k - 1) * 8) 8 m own)))
+        (ap (drop 8) (drop-at (take ((k - 1) * 8) m) (own ++ drop 8 (drop ((k - 1) * 8) m)) ((k - 1) * 8) before)
+        ∙ drop-at own (drop 8 (drop ((k - 1) * 8) m)) 8 length-own)
+
+    -- its words: the image's word in its place
+    word-written : words (putPart ((k - 1) * 8) 8 m own) ≡ set (words m) (k - 1) (getD (words register-image) (k - 1) 0)
+    word-written =
+        let i : k - 1 < length (words register-image) = omega (arith, length-words register-image, length-image) in
+        let j : k - 1 < length (words m) = omega (arith, length-words m) in
+        words-put m (k - 1) 1 (omega arith) own length-own
+        ∙ rw (words-part register-image (k - 1) 1 (omega (arith, length-image)), drop-cons (words register-image) (k - 1) 0 i, drop-cons (words m) (k - 1) 0 j)
+        (sym (set-split (words m) (k - 1) (getD (words register-image) (k - 1) 0) j))
+
+    -- `write_eight`: a store of the image's word at word number i
+    pub written : (m′ : List ℕ) → length m′ ≡ 512 → ((j : ℕ) → getD m j 0 < 256) → ((j : ℕ) → getD m′ j 0 < 256)
+        → (i v : ℕ) → i ≡ k - 1 → v ≡ getD (words register-image) (k - 1) 0 → Writes m m′ (set (words m) i v) → m′ ≡ eight-written k m
+    unfolding eight-written
+    written m′ z′ x x′ i v n e w =
+        words-inj m′ (putPart ((k - 1) * 8) 8 m own) x′
+        (put-bytes ((k - 1) * 8) 8 m own (omega arith) x (part-bytes ((k - 1) * 8) 8 register-image (omega (arith, length-image)) image-bytes))
+        (omega arith) (z′ ∙ sym (length-put ((k - 1) * 8) 8 m own (omega arith) length-own ∙ z))
+        (w .words ∙ rw (n, e) (sym word-written))

@@ -3,7 +3,7 @@ use mathlib.Core.Path.{_≡_, refl}
 use mathlib.Core.List.{List, [], _∷_, _++_}
 use Prim.Native.Nat.{ℕ}
 use lib.ListN.{replicate}
-use Rattle.carv_register_image.specs.Image.{register-image, after-step, stepped}
+use Rattle.carv_register_image.specs.Image.{register-image, eight-written, after-step}
 
 -- n lent bytes, none of which is the image's
 abbrev lent : (n : ℕ) → List ℕ
@@ -29,13 +29,13 @@ pub record Cases : Type 0 where
   pub after-63 : after-step 63 (lent 512) ≡ first ++ (zeros 16 ++ (fourth ++ (zeros 472 ++ lent 8)))
   pub after-64 : after-step 64 (lent 512) ≡ first ++ (zeros 16 ++ (fourth ++ zeros 480))
   -- "eight bytes in each step", of bytes in which no other step was made
-  pub step-1 : stepped 1 (lent 512) ≡ first ++ lent 504
-  pub step-2 : stepped 2 (lent 512) ≡ lent 8 ++ (zeros 8 ++ lent 496)
-  pub step-4 : stepped 4 (lent 512) ≡ lent 24 ++ (fourth ++ lent 480)
-  pub step-64 : stepped 64 (lent 512) ≡ lent 504 ++ zeros 8
+  pub step-1 : eight-written 1 (lent 512) ≡ first ++ lent 504
+  pub step-2 : eight-written 2 (lent 512) ≡ lent 8 ++ (zeros 8 ++ lent 496)
+  pub step-4 : eight-written 4 (lent 512) ≡ lent 24 ++ (fourth ++ lent 480)
+  pub step-64 : eight-written 64 (lent 512) ≡ lent 504 ++ zeros 8
 
 pub cases-hold : Cases
-unfolding register-image after-step stepped
+unfolding register-image after-step eight-written
 cases-hold = record {
   image = refl;
   after-0 = refl;

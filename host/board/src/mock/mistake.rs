@@ -108,8 +108,11 @@ pub enum Mistake {
     ImageOfOtherBytes,
     ImageWordsExchanged,
     ImageWithoutItsLastStep,
+    ImageCallFillsNothing,
     AnswerLengthNotAsked,
     ImageLengthNotAsked,
+    ImageCallLengthNotAsked,
+    ImageWrittenAtAnotherLength,
     // Of question 1.
     SumsWrap,
     SumOfChargesNotAsked,

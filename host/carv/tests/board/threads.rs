@@ -2,8 +2,8 @@
 
 use crate::{open, refused};
 use carv::{
-    Backing, Board, Cause, Context, Image, LAST_TICK, Limits, MOST_EXITS, MOST_THREADS, ObjectId,
-    Refusal, Space, State, Switch, ThreadId, ThreadRecord, Wait,
+    Backing, Board, Cause, Context, IMAGE_BYTES, Image, LAST_TICK, Limits, MOST_EXITS,
+    MOST_THREADS, ObjectId, Refusal, Space, State, Switch, ThreadId, ThreadRecord, Wait,
 };
 
 const NOBODY: ThreadId = ThreadId(77);
@@ -30,6 +30,32 @@ fn start(board: &mut Board, id: ThreadId, budget: ObjectId) {
         .create_user_thread(id, budget, Backing::There)
         .expect("the id is free");
     board.start(id, SPACE, CONTEXT).expect("it is Inactive");
+}
+
+/// Document 01's register image, over whatever the bytes held; those of another length stay.
+#[test]
+fn images() {
+    let mut expected = [0; IMAGE_BYTES];
+    for (place, byte) in [
+        (0, 0x7f),
+        (1, 0x03),
+        (24, 0x80),
+        (25, 0x1f),
+        (28, 0xbf),
+        (29, 0xff),
+    ] {
+        expected[place] = byte;
+    }
+    let image = Image::new().expect("its length is right");
+    assert_eq!(image.as_bytes(), &expected);
+
+    let mut lent = [0xa5; IMAGE_BYTES];
+    assert_eq!(carv::c::carv_image(&mut lent), 0);
+    assert_eq!(lent, expected);
+    let mut longer = [0xa5; IMAGE_BYTES + 8];
+    assert_eq!(carv::c::carv_image(&mut longer), 1);
+    assert_eq!(carv::c::carv_image(&mut longer[..IMAGE_BYTES - 8]), 1);
+    assert_eq!(longer, [0xa5; IMAGE_BYTES + 8]);
 }
 
 #[test]

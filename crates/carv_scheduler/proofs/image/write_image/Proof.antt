@@ -1,6 +1,6 @@
 -- `carv_scheduler::image::write_image` meets its contract. Assumes nothing.
 use borrow.Author.Needs.{needs}
-use Rattle.carv_scheduler.specs.laws.ImageSteps.{image-refused, image-filled}
+use Rattle.carv_scheduler.specs.laws.ImageCall.{image-refused, image-filled}
 use Rattle.carv_scheduler.proofs.image.write_image.Statement.{statement}
 use Rattle.carv_scheduler.proofs.image.write_image.Tie as tie
 
