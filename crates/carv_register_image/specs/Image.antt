@@ -20,6 +20,6 @@ eight-written k m = putPart ((k - 1) * 8) 8 m (part ((k - 1) * 8) 8 register-ima
 unfoldable pub after-step : (k : ℕ) (lent : List ℕ) → List ℕ
 after-step k lent = take (k * 8) register-image ++ drop (k * 8) lent
 
--- in m steps 1 to k are made: "its first 8k bytes are final"
-unfoldable pub Made : (k : ℕ) (m : List ℕ) → Type 0
-Made k m = take (k * 8) m ≡ take (k * 8) register-image
+-- "its first 8k bytes are final"
+unfoldable pub Final : (k : ℕ) (m : List ℕ) → Type 0
+Final k m = take (k * 8) m ≡ take (k * 8) register-image

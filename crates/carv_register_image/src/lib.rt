@@ -3,7 +3,7 @@ ghost use mathlib.Core.Path.{_≡_};
 ghost use Prim.Native.Nat.{_-_, _≤_};
 ghost use lib.ListN.{length, getD};
 ghost use Rattle.carv_area.specs.Words.{words};
-ghost use Rattle.carv_register_image.specs.Image.{register-image, eight-written, after-step, Made};
+ghost use Rattle.carv_register_image.specs.Image.{register-image, eight-written, after-step, Final};
 
 pub const BYTES: usize = 512;
 
@@ -20,7 +20,7 @@ fn word_at(i: usize) -> u64
     }
 }
 
-// Writes the eight bytes of step k of 64, from 1, as the word that they are. Compiled alone it is one 64-bit store.
+// Writes the eight bytes of step k of 64, from 1, as the word that they are, and no other. Compiled alone it is one 64-bit store.
 fn write_eight(image: &mut [u8], k: usize, word: u64)
     requires { ⌜ length (now image) ≡ 512 ⌝ }
     requires { ⌜ (1 ≤ k) × (k ≤ 64) ⌝ }
@@ -30,11 +30,11 @@ fn write_eight(image: &mut [u8], k: usize, word: u64)
     carv_area::put(image, k - 1, word);
 }
 
-// Step k of 64, from 1, where the steps before it are made.
+// Step k of 64, from 1, where the bytes before its own are final.
 fn step(image: &mut [u8], k: usize)
     requires { ⌜ length (now image) ≡ 512 ⌝ }
     requires { ⌜ (1 ≤ k) × (k ≤ 64) ⌝ }
-    requires { ⌜ Made (k - 1) (now image) ⌝ }
+    requires { ⌜ Final (k - 1) (now image) ⌝ }
     ensures { λ _. ⌜ now (image .exit) ≡ after-step k (now (image .entry)) ⌝ }
 {
     write_eight(image, k, word_at(k - 1));

@@ -15,7 +15,7 @@ use Rattle.carv_area.specs.Words.{value, word, words, Writes}
 use Rattle.carv_area.specs.laws.Words.{length-words, words-inj, words-part, words-put}
 use Rattle.carv_area.specs.Parts.{part, putPart}
 use Rattle.carv_area.specs.laws.Parts.{length-part, length-put, part-same, part-bytes, put-bytes}
-use Rattle.carv_register_image.specs.Image.{register-image, eight-written, after-step, Made}
+use Rattle.carv_register_image.specs.Image.{register-image, eight-written, after-step, Final}
 
 -- ---- the image
 
@@ -72,19 +72,19 @@ module _ (k : ℕ) (h : k ≤ 64) (lent : List ℕ) where
   front = length-take-le (k * 8) register-image (omega (arith, length-image))
 
   -- "its first 8k bytes are final"
-  pub final : Made k (after-step k lent)
-  unfolding after-step Made
-  final = take-at (take (k * 8) register-image) (drop (k * 8) lent) (k * 8) front
+  pub are-final : Final k (after-step k lent)
+  unfolding after-step Final
+  are-final = take-at (take (k * 8) register-image) (drop (k * 8) lent) (k * 8) front
 
   -- "and the others as lent"
   pub as-lent : drop (k * 8) (after-step k lent) ≡ drop (k * 8) lent
   unfolding after-step
   as-lent = drop-at (take (k * 8) register-image) (drop (k * 8) lent) (k * 8) front
 
--- the steps so far are made, and one step more is made of the same lent bytes
+-- what the steps so far left: their bytes are final, and one step more leaves what it is to leave of the lent bytes
 module _ (k : ℕ) (h : k < 64) (lent m : List ℕ) (e : m ≡ after-step k lent) where
-  pub so-far : Made k m
-  so-far = rw e (final k (omega arith) lent)
+  pub so-far : Final k m
+  so-far = rw e (are-final k (omega arith) lent)
 
   pub one-more : after-step (k + 1) m ≡ after-step (k + 1) lent
   unfolding after-step
@@ -118,9 +118,9 @@ module _ (k : ℕ) (a : 1 ≤ k) (b : k ≤ 64) where
   length-own : length own ≡ 8
   length-own = length-part ((k - 1) * 8) 8 register-image (omega (arith, length-image))
 
-  -- where the steps before it are made, writing them is step k
-  pub step-is : (m : List ℕ) → Made (k - 1) m → eight-written k m ≡ after-step k m
-  unfolding eight-written after-step Made
+  -- where the bytes before them are final, writing them is step k
+  pub step-is : (m : List ℕ) → Final (k - 1) m → eight-written k m ≡ after-step k m
+  unfolding eight-written after-step Final
   step-is m e =
       rw (e, drop-drop 8 ((k - 1) * 8) m, ← ends, take-add ((k - 1) * 8) 8 register-image)
       (sym (append-assoc (take ((k - 1) * 8) register-image) own (drop ((k - 1) * 8 + 8) m)))
