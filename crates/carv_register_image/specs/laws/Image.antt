@@ -72,8 +72,8 @@ module _ (k : ℕ) (h : k ≤ 64) (lent : List ℕ) where
   front = length-take-le (k * 8) register-image (omega (arith, length-image))
 
   -- "its first 8k bytes are final"
-  pub are-final : Final k (after-step k lent)
-  unfolding after-step Final
+  pub are-final : take (k * 8) (after-step k lent) ≡ take (k * 8) register-image
+  unfolding after-step
   are-final = take-at (take (k * 8) register-image) (drop (k * 8) lent) (k * 8) front
 
   -- "and the others as lent"
@@ -84,6 +84,7 @@ module _ (k : ℕ) (h : k ≤ 64) (lent : List ℕ) where
 -- what the steps so far left: their bytes are final, and one step more leaves what it is to leave of the lent bytes
 module _ (k : ℕ) (h : k < 64) (lent m : List ℕ) (e : m ≡ after-step k lent) where
   pub so-far : Final k m
+  unfolding Final
   so-far = rw e (are-final k (omega arith) lent)
 
   pub one-more : after-step (k + 1) m ≡ after-step (k + 1) lent
