@@ -3,7 +3,8 @@
 //! [`port`] calls the port's library through its C functions, or with the feature `mock` a model in
 //! its place. [`pair`] makes each call on both and compares the answer and every byte of the state. What the
 //! port refuses beyond the Rust (the numbers marked + in document 01) is decided in
-//! [`carv_compare::board::reference`]. [`charges`] runs document 02's laws of charges on the port.
+//! [`carv_compare::board::reference`]. [`charges`] runs document 02's laws of charges on the
+//! port, [`spent`] its promise that no period is overspent.
 
 #![forbid(unsafe_code)]
 
@@ -23,6 +24,7 @@ pub mod short;
 pub mod shorten;
 pub mod snapshot;
 pub mod soak;
+pub mod spent;
 pub mod tally;
 
 pub use carv_layout::{area, sound};

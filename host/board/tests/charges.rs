@@ -39,8 +39,8 @@ fn a_report_is_printed() {
 #[test]
 fn wrong_arguments_end_with_2() {
     for (arguments, part) in [
-        ("charges", "`charges` with their numbers"),
-        ("charges 1", "`charges` with their numbers"),
+        ("charges", "`charges` or `spent` with their numbers"),
+        ("charges 1", "`charges` or `spent` with their numbers"),
         ("charges many 1", "COUNT must be a number"),
     ] {
         let run = board(arguments);
@@ -53,7 +53,7 @@ fn wrong_arguments_end_with_2() {
 #[test]
 fn the_gate_runs_each_command() {
     let gate = include_str!("../../../.ci/compare");
-    for command in ["random", "short", "damaged", "charges"] {
+    for command in ["random", "short", "damaged", "charges", "spent"] {
         let line = format!("\nhost/target/release/board {command} ");
         assert!(gate.contains(&line), "{command}");
         assert!(

@@ -1,7 +1,7 @@
 //! Compares the port's board with the Rust's.
 
 use carv_board_host::tally::Tally;
-use carv_board_host::{charges, damaged, runs, short, soak};
+use carv_board_host::{charges, damaged, runs, short, soak, spent};
 use carv_compare::command::{self, Done, numbers, say};
 use std::io;
 use std::process::ExitCode;
@@ -14,6 +14,7 @@ usage: board random COUNT SEED
        board short DEPTH
        board damaged COUNT SEED
        board charges COUNT SEED
+       board spent COUNT SEED
        board soak [OPTIONS]
        board --help
 
@@ -25,6 +26,10 @@ damaged  damages COUNT areas and makes every kind of call on each: one that isn'
 charges  runs laws of charges on COUNT areas, some of them damaged, by the port alone, and
          compares copies of each: charged singly and in bulk, charged and uncharged, charged in
          either order
+spent    makes COUNT random calls with clock values that never fall, on one board after the
+         other: after each, the figures of every live budget are those worked from the calls
+         and their refusals alone, and no budget has spent more than its allowance in the
+         period, with all below it
 soak     random calls and damaged areas by turns, for a time or a count, with a report:
          see board soak --help
 
@@ -53,8 +58,10 @@ fn compare(arguments: &[&str]) -> Done {
         ["short", depth] => all_short(depth_of(depth)?),
         ["damaged", count, seed] => damage(numbers(count, seed)?),
         ["charges", count, seed] => laws_of_charges(numbers(count, seed)?),
+        ["spent", count, seed] => no_period_overspent(numbers(count, seed)?),
         _ => {
-            let modes = "`random`, `short`, `damaged` or `charges` with their numbers, or `soak`";
+            let modes =
+                "`random`, `short`, `damaged`, `charges` or `spent` with their numbers, or `soak`";
             return Err(format!("expected {modes}"));
         }
     };
@@ -90,6 +97,12 @@ fn laws_of_charges((count, seed): (u64, u64)) -> Result<String, String> {
     charges::charges(count, seed)
         .map(|report| format!("{report}, 0 differences"))
         .map_err(|why| format!("seed {seed}, {why}"))
+}
+
+fn no_period_overspent((count, seed): (u64, u64)) -> Result<String, String> {
+    spent::spent(count, seed)
+        .map(|report| format!("{report}, none overspent, 0 differences"))
+        .map_err(|finding| format!("seed {seed}, {finding}"))
 }
 
 fn report(tally: &Tally) -> String {

@@ -76,8 +76,12 @@ impl Model {
         }
         ask(12, covered)?;
         account.memory_used += 128;
-        account.cpu_left -= cpu;
         account.cpu_reserved += cpu;
+        account.cpu_left = match planted(Mistake::CarveLeavesCpuLeft) {
+            // As far as question 1 lets it.
+            true => (account.cpu_allowance - account.cpu_reserved).min(account.cpu_left),
+            false => account.cpu_left - cpu,
+        };
         account.memory_reserved += memory;
         let late = planted(Mistake::ChildStartsAtTime);
         let child = Account {
@@ -113,6 +117,9 @@ impl Model {
         account.memory_used -= row.charge;
         if planted(Mistake::RemovalGivesCpuBack) {
             account.cpu_left += row.account.cpu_allowance;
+        }
+        if planted(Mistake::RemovalGivesWhatIsLeftBack) {
+            account.cpu_left += row.account.cpu_left;
         }
         if is_budget && planted(Mistake::RemovalRenewsBehindTheReturn) {
             renew(account, time);
@@ -235,7 +242,9 @@ impl Model {
             *account = before;
         }
         ask(12, covered)?;
-        account.cpu_left -= ns;
+        if !planted(Mistake::CpuChargeNotBooked) {
+            account.cpu_left -= ns;
+        }
         Ok(vec![])
     }
 }

@@ -166,9 +166,17 @@ impl Model {
         let [has_budget, budget] = thread.budget;
         let books = first || !planted(Mistake::OnlyFirstTickBooked);
         if let (1, true, Ok(account)) = (has_budget, books, self.budget(budget)) {
-            renew(account, tick * TICK);
-            if account.cpu_left >= TICK || !planted(Mistake::TickRefusedWhereLessIsLeft) {
-                account.cpu_left -= TICK.min(account.cpu_left);
+            if !planted(Mistake::TickRenewsNoBudget) {
+                renew(account, tick * TICK);
+            }
+            let missing = TICK.saturating_sub(account.cpu_left);
+            if missing == 0 || !planted(Mistake::TickRefusedWhereLessIsLeft) {
+                account.cpu_left -= TICK - missing;
+            }
+            if planted(Mistake::TickTakesTheRestFromThePayer) {
+                let payer = self.object(budget)?.payer;
+                let left = &mut self.budget(payer)?.cpu_left;
+                *left -= missing.min(*left);
             }
         }
         let mut due: Vec<u64> = self
