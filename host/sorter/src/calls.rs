@@ -1,9 +1,11 @@
-//! A board that writes down each call made on it, in the grammar of `carv replay`.
+//! A board that writes down each call made on it, in the grammar of `carv replay`, and tells it to the
+//! ledger.
 
 use carv::{
     Backing, Board, Cause, Context, Image, Kind, Limits, ObjectId, Refusal, Space, Switch,
     ThreadId, Wait,
 };
+use carv_ledger::{Call, History};
 use std::ops::Deref;
 
 /// A board with the list of the calls made on it. Readings are those of [`Board`] and are not
@@ -12,6 +14,7 @@ use std::ops::Deref;
 pub struct Listed {
     board: Board,
     lines: Vec<String>,
+    history: History,
 }
 
 impl Deref for Listed {
@@ -28,12 +31,13 @@ impl Listed {
         Self {
             board: Board::unopened(),
             lines: Vec::new(),
+            history: History::default(),
         }
     }
 
-    /// The board and the list.
-    pub fn into_parts(self) -> (Board, Vec<String>) {
-        (self.board, self.lines)
+    /// The board, the list, and what it says.
+    pub fn into_parts(self) -> (Board, Vec<String>, History) {
+        (self.board, self.lines, self.history)
     }
 
     /// How many lines there are, to put a comment behind them later on.
@@ -67,6 +71,9 @@ impl Listed {
             line.push_str(&format!(" {argument}"));
         }
         self.lines.push(line);
+        let call = Call::parse(name, arguments).expect("a call as in the header");
+        let number = answer.as_ref().err().map_or(0, |refusal| refusal.number());
+        self.history.note(self.length() as u64, call, number);
         answer
     }
 }

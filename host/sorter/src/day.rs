@@ -178,6 +178,7 @@ impl Sorter {
         let (part, service) = (&mut self.parts[index], &SERVICES[index]);
         let live = switch_on(&mut self.board, service, tick)?;
         self.day.trace.name(live.budget, service.name);
+        self.day.names.insert(live.budget.0, service.name);
         part.live = Some(live);
         // A service looks around once after its start.
         part.backlog = 1;
@@ -235,7 +236,12 @@ impl Sorter {
         }
         day.switches = board.switches()?;
         day.idle_run_ticks = board.read_thread(ThreadId::IDLE)?.run_ticks;
-        (day.board, day.calls) = board.into_parts();
+        let history;
+        (day.board, day.calls, history) = board.into_parts();
+        if let Some(opened) = history.opened() {
+            day.ledger = opened.ledger.clone();
+            day.clock_rose = opened.clock.fell_in_any_call().is_none();
+        }
         let restored = Board::from_bytes(day.board.as_bytes());
         day.sound = restored.is_ok_and(|restored| restored == day.board);
         Ok(day)

@@ -2,7 +2,9 @@
 
 use crate::services::SERVICES;
 use carv::Board;
+use carv_ledger::{Ledger, Most};
 use carv_picture::Trace;
+use std::collections::BTreeMap;
 
 /// What the board noted of a service, beside what the trace has.
 #[derive(Clone, Copy, Debug, Default)]
@@ -49,6 +51,12 @@ pub struct Day {
     pub board: Board,
     /// The calls that were made, as lines for `carv replay`.
     pub calls: Vec<String>,
+    /// What was spent in each period, by the calls and their refusals alone.
+    pub ledger: Ledger,
+    /// Did the clock values of the calls never fall? Without that nothing is promised of the ledger.
+    pub clock_rose: bool,
+    /// The names of budgets, the root's and those of services.
+    pub names: BTreeMap<u64, &'static str>,
 }
 
 impl Day {
@@ -67,6 +75,34 @@ impl Day {
             sound: false,
             board: Board::unopened(),
             calls: Vec::new(),
+            ledger: Ledger::default(),
+            clock_rose: false,
+            names: BTreeMap::from([(carv_ledger::ROOT, "root")]),
         }
+    }
+}
+
+/// What a budget and all below it spent at most.
+#[derive(Clone, Copy, Debug, PartialEq, Eq)]
+pub struct Spent {
+    /// The budget's name.
+    pub name: &'static str,
+    /// Its share of every period, in ns.
+    pub allowance: u128,
+    /// The most that it spent in any period; none if it never spent anything.
+    pub most: Option<Most>,
+}
+
+impl Day {
+    /// What each budget that was ever live spent at most, in the order in which they were carved out.
+    pub fn spent(&self) -> Vec<Spent> {
+        let most = self.ledger.most();
+        let budgets = self.ledger.budgets();
+        let spent = budgets.map(|(id, carved)| Spent {
+            name: self.names.get(&id).copied().unwrap_or("no name"),
+            allowance: carved.allowance,
+            most: most.get(&id).copied(),
+        });
+        spent.collect()
     }
 }

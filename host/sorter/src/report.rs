@@ -1,8 +1,9 @@
 //! The day in words: a diary, a table of what each service got against its share, and checks.
 
-use crate::record::Day;
+use crate::record::{Day, Spent};
 use crate::services::{BOARD, PERIOD, PERIODS, SERVICES};
 use carv::{PERIOD_NS, TICK_NS};
+use carv_ledger::Most;
 use carv_picture::{Rows, Total};
 use carv_text::figures::{grouped, ms, wrapped};
 
@@ -35,6 +36,10 @@ pub fn checks(day: &Day) -> Vec<Check> {
         (
             "No service got more than its share in any period.",
             got().all(|(total, service)| total.most_ns <= service.share * TICK_NS),
+        ),
+        (
+            "No 10 ms was overspent, by any budget with all below it, and the clock never fell.",
+            day.clock_rose && day.ledger.overspent().is_none(),
         ),
         (
             "After every tick the account of the service that ran said what it was seen to run.",
@@ -82,6 +87,8 @@ pub fn report(day: &Day) -> String {
     lines.extend(diary(day));
     lines.push(String::new());
     lines.extend(table(day));
+    lines.push(String::new());
+    lines.extend(spent(day));
     lines.push(String::new());
     for check in checks(day) {
         let mark = if check.holds { "yes" } else { "NO" };
@@ -150,4 +157,40 @@ fn table(day: &Day) -> Vec<String> {
         "  All is the most that was used at once, with what the root pays for budgets.".to_string(),
     );
     lines
+}
+
+/// The most that each budget spent, with all below it.
+fn spent(day: &Day) -> Vec<String> {
+    let mut lines = vec![
+        "  The most that each budget spent in any 10 ms, with all below it:".to_string(),
+        String::new(),
+        format!(
+            "  {:<12}{:>7}{:>10}   in the 10 ms",
+            "budget", "share", "spent"
+        ),
+    ];
+    for Spent {
+        name,
+        allowance,
+        most,
+    } in day.spent()
+    {
+        let share = in_ms(allowance);
+        lines.push(match most {
+            Some(Most { period, spent }) => {
+                let from = in_ms(period * u128::from(PERIOD_NS));
+                let spent = in_ms(spent);
+                format!("  {name:<12}{share:>7}{spent:>10}   from {from} ms")
+            }
+            None => format!("  {name:<12}{share:>7}{:>10}", "0"),
+        });
+    }
+    lines.push(String::new());
+    lines.push("  A service that is switched on again has a new budget.".to_string());
+    lines
+}
+
+/// Nanoseconds in ms.
+fn in_ms(ns: u128) -> String {
+    u64::try_from(ns).map_or_else(|_| format!("{ns} ns"), ms)
 }

@@ -108,6 +108,10 @@ fn the_report_tells() {
         "\n  idle ",
         "\n  all                                                         403,712    524,288\n",
         "yes  No service got more than its share in any period.",
+        "yes  No 10 ms was overspent, by any budget with all below it, and the clock never fell.",
+        "\n  root             10         9   from 120 ms\n",
+        "\n  bag printer       1         1   from 10 ms\n",
+        "\n  bag printer       1         1   from 1,800 ms\n",
     ] {
         assert!(report.contains(text), "{text}");
     }
@@ -147,10 +151,14 @@ fn another(cpu_ns: u64) -> Result<(Board, ObjectId), Refusal> {
 /// Each check sees a day on which what it claims doesn't hold.
 #[test]
 fn checks_fail() {
-    let spoilers: [fn(&mut Day); 8] = [
+    let spoilers: [fn(&mut Day); 9] = [
         |day| {
             let ticks = FIRST..FIRST + PERIOD;
             ticks.for_each(|tick| show_another(&mut day.trace, UPLOAD, TICK_NS, tick));
+        },
+        |day| {
+            day.ledger
+                .note_charge(ObjectId::ROOT.0, 1_000_001, 120_000_000)
         },
         |day| day.misbooked = 1,
         |day| day.idle_run_ticks += 1,
@@ -167,6 +175,38 @@ fn checks_fail() {
         assert!(!check.holds, "{}", check.claim);
         assert!(report(&day).contains(&format!("NO   {}", check.claim)));
     }
+}
+
+/// The guarantee is for clocks that never fall.
+#[test]
+fn a_clock_that_fell_is_told() {
+    let mut day = run();
+    day.clock_rose = false;
+    assert!(report(&day).contains("NO   No 10 ms was overspent"));
+}
+
+/// Each budget that was ever live, the printer's two among them, spent no more than its share; what
+/// it spent at most is what it was seen to run.
+#[test]
+fn what_was_spent() {
+    let day = run();
+    let spent = day.spent();
+    let names: Vec<&str> = spent.iter().map(|spent| spent.name).collect();
+    let services = SERVICES.iter().map(|service| service.name);
+    let expected = ["root"].into_iter().chain(services).chain(["bag printer"]);
+    assert_eq!(names, expected.collect::<Vec<_>>());
+    let rows = Rows::new(&day.trace);
+    for budget in &spent[1..] {
+        let row = rows.budget(budget.name).expect("each service has a row");
+        let most = budget.most.expect("each spent something");
+        assert!(most.spent <= budget.allowance, "{budget:?}");
+        assert_eq!(most.spent, row.total.most_ns.into(), "{budget:?}");
+    }
+    // The root's threads spend nothing; in its busiest period the services ran for 9 ms.
+    let root = spent[0].most.expect("services spent something");
+    assert_eq!((root.spent, root.period), (9_000_000, 12));
+    assert_eq!(day.ledger.charged(root.period, ObjectId::ROOT.0), 0);
+    assert_eq!(spent[0].allowance, BOARD.cpu_ns.into());
 }
 
 #[test]
