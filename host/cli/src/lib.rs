@@ -18,6 +18,7 @@ pub mod picture;
 pub mod progress;
 pub mod reader;
 pub mod run;
+pub mod spent;
 pub mod status;
 pub mod summary;
 pub mod table;

@@ -12,6 +12,7 @@ use crate::output::Output;
 use crate::picture::Watch;
 use crate::progress::{Done, Progress};
 use crate::reader::{LONGEST, Read, Reader};
+use crate::spent::Spent;
 use crate::status::{Failure, Status};
 use crate::summary::Summary;
 use crate::text;
@@ -36,6 +37,7 @@ pub fn replay(options: &Replay, out: &mut Output) -> Result<Status, Failure> {
         names: Names::default(),
         watch: options.svg.is_some().then(Watch::new),
         summary: Summary::default(),
+        spent: Spent::default(),
         progress: Progress::new(bar, total),
         flushes: options.reads_standard_input() && io::stdin().is_terminal(),
         out,
@@ -66,6 +68,7 @@ struct Run<'a> {
     names: Names,
     watch: Option<Watch>,
     summary: Summary,
+    spent: Spent,
     progress: Progress,
     /// Whether somebody waits for each answer.
     flushes: bool,
@@ -118,6 +121,8 @@ impl Run<'_> {
                     Some(watch) => watch.make(&call, &mut self.board, &self.names),
                     None => call.make(&mut self.board),
                 };
+                let number = made.as_ref().map_or_else(|refusal| refusal.number(), |_| 0);
+                self.spent.note(self.summary.lines, &call, number);
                 self.answer(&call, made)?;
             }
             Err(why) => self.bad_line(&why)?,
@@ -178,11 +183,15 @@ impl Run<'_> {
             self.dump()?;
         }
         if self.options.json {
+            if let Some(spent) = self.spent.json(&self.names) {
+                self.out.line(spent)?;
+            }
             self.out.line(self.summary.json())?;
         }
         self.out.flush()?;
         if !self.options.json && !self.out.is_closed() {
-            eprint!("{}", self.summary.text());
+            let spent = self.spent.text(&self.names);
+            eprint!("{}{spent}", self.summary.text());
         }
         if let Some(path) = &self.options.keep {
             area::keep(&self.board, path)?;

@@ -111,6 +111,8 @@ fn each_call_has_its_fields() {
         let expected = format!("{{\"line\":{line},\"call\":\"{name}\",\"arguments\":{expected}}}");
         assert_eq!(found.next(), Some(expected.as_str()));
     }
+    let spent = "{\"spent\":{\"overspent\":null,";
+    assert!(found.next().is_some_and(|line| line.starts_with(spent)));
     let summary = "{\"summary\":{\"lines\":27,\"calls\":27,\"accepted\":27,\"refused\":0,\"refusals\":[],\"bad_lines\":0,\"stopped_at\":null}}";
     assert_eq!(found.next(), Some(summary));
     assert_eq!(found.next(), None);
@@ -212,7 +214,7 @@ fn quiet_and_silent_leave_answers_out() {
         "3 lines, 3 calls: 2 accepted, 1 refused; 0 bad lines\n  refused with 7, 1 time: ";
     assert!(silent.err.starts_with(expected), "{}", silent.err);
     let json = carv(&["replay", "--silent", "--json"], &list);
-    assert_eq!((json.out.lines().count(), json.err.as_str()), (1, ""));
+    assert_eq!((json.out.lines().count(), json.err.as_str()), (2, ""));
     assert!(
         json.out
             .contains("\"refusals\":[{\"number\":7,\"count\":1,\"meaning\":\"there is no")

@@ -5,6 +5,7 @@ mod boards;
 mod checks;
 mod lists;
 mod pictures;
+mod spent;
 mod usage;
 
 use std::io::Write;
