@@ -87,7 +87,7 @@ fn first_finding<S: Side>(
     let mut progress = Progress::new(count);
     for made in 0..count {
         let call = walk.next_call(side.state());
-        if let Call::Open { .. } = call {
+        if walk.opens() {
             let ended = audit.end_board();
             ended.map_err(|why| finding(&since_opening, why))?;
             since_opening.clear();

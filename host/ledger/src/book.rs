@@ -46,6 +46,8 @@ pub struct Book {
     pub current: u64,
     /// Whether it runs.
     pub runs: bool,
+    /// The threads that sleep, with the ticks that end it: to be found among all threads ever created.
+    sleepers: BTreeMap<u64, u64>,
     /// Whether a removed budget's payer is renewed first, which document 02's request P2 asks for.
     removal_renews: bool,
 }
@@ -81,6 +83,7 @@ impl Book {
             queue: Vec::new(),
             current: 0,
             runs: true,
+            sleepers: BTreeMap::new(),
             removal_renews: true,
         }
     }
@@ -148,10 +151,11 @@ impl Book {
                     wait: None,
                 };
                 self.threads.insert(id, thread);
+                self.sleepers.remove(&id);
             }
             Call::Start { id } => self.queue.push(id),
             Call::BlockCurrent { kind, number } => {
-                self.on_thread(self.current, |thread| thread.wait = Some((kind, number)));
+                self.set_wait(self.current, Some((kind, number)));
                 self.runs = false;
             }
             Call::Wake { id } => self.wake(id),
@@ -245,21 +249,26 @@ impl Book {
         self.threads.get(&id).copied().unwrap_or_default()
     }
 
-    fn on_thread(&mut self, id: u64, change: impl FnOnce(&mut Thread)) {
-        if let Some(thread) = self.threads.get_mut(&id) {
-            change(thread);
-        }
+    fn set_wait(&mut self, id: u64, wait: Option<(u64, u64)>) {
+        let Some(thread) = self.threads.get_mut(&id) else {
+            return;
+        };
+        thread.wait = wait;
+        match wait {
+            Some((SLEEP, until)) => self.sleepers.insert(id, until),
+            _ => self.sleepers.remove(&id),
+        };
     }
 
     /// "Threads started, woken or put back join the queue's end."
     fn wake(&mut self, id: u64) {
-        self.on_thread(id, |thread| thread.wait = None);
+        self.set_wait(id, None);
         self.queue.push(id);
     }
 
     /// "Blocked or killed, they stop running; killed, they leave queue and wait."
     fn kill(&mut self, id: u64) {
-        self.on_thread(id, |thread| thread.wait = None);
+        self.set_wait(id, None);
         self.queue.retain(|queued| *queued != id);
         if id == self.current {
             self.runs = false;
@@ -276,8 +285,7 @@ impl Book {
                 budget.take_cpu(ns);
             });
         }
-        let is_due = |thread: &Thread| matches!(thread.wait, Some((SLEEP, until)) if until <= n);
-        let due = self.threads.iter().filter(|(_, thread)| is_due(thread));
+        let due = self.sleepers.iter().filter(|(_, until)| **until <= n);
         let due: Vec<u64> = due.map(|(id, _)| *id).collect();
         for id in due {
             self.wake(id);

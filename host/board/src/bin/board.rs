@@ -128,4 +128,20 @@ mod tests {
             assert!(why.contains(part), "{part}: {why}");
         }
     }
+
+    #[test]
+    fn what_is_overspent_is_told_with_its_calls() {
+        plant(Some(Mistake::RemovalRenewsBehindTheReturn));
+        let done = compare(&["spent", "10000", "2"]);
+        plant(None);
+        let why = done.expect("called rightly").expect_err("a finding");
+        for part in [
+            "seed 2, ",
+            " calls\n  open(",
+            "\n  remove(",
+            "\ndifference: ",
+        ] {
+            assert!(why.contains(part), "{part}: {why}");
+        }
+    }
 }

@@ -137,3 +137,86 @@ fn figures(account: &Account) -> Figures {
         cpu_left: account.cpu_left.into(),
     }
 }
+
+#[cfg(test)]
+mod tests {
+    use super::*;
+    use carv_compare::board::reference::Reference;
+    use carv_compare::board::walk::Walk;
+    use carv_oracle::Entry;
+
+    /// Demand 3 on the Rust, on lists of all kinds: tables that fill up, clocks that fall.
+    #[test]
+    fn figures_are_the_book_s_whatever_the_clock() {
+        let mut walk = Walk::new(5);
+        let mut board = Reference::default();
+        let mut history = History::default();
+        for place in 0..100_000 {
+            let call = walk.next_call(board.state());
+            let number = board.call(call).number;
+            history.note(place, told(call), number);
+            if let Some(opened) = history.opened() {
+                let same = same_as_by_the_book(&opened.book, board.state());
+                assert_eq!(same, Ok(()), "call {place}, {call}");
+                assert_eq!(opened.book.queue, board.state().ready, "{call}");
+                assert_eq!(opened.book.next, board.state().next_id, "{call}");
+            }
+        }
+    }
+
+    /// Each figure, each live budget and the current thread are looked at.
+    #[test]
+    fn what_differs_from_the_book() {
+        let mut board = Reference::default();
+        let mut history = History::default();
+        for call in [
+            Call::Open {
+                cpu: 10_000_000,
+                memory: 1_000,
+            },
+            Call::CreateBudget {
+                parent: 1,
+                cpu: 5,
+                memory: 100,
+                time: 0,
+            },
+        ] {
+            let number = board.call(call).number;
+            history.note(0, told(call), number);
+        }
+        let book = &history.opened().expect("an opening").book;
+        let spoilt = |spoil: fn(&mut Snapshot)| {
+            let mut state = board.state().clone();
+            spoil(&mut state);
+            same_as_by_the_book(book, &state)
+        };
+        fn account(state: &mut Snapshot) -> &mut Account {
+            let entry: &mut Entry = &mut state.entries[1];
+            entry.account.as_mut().expect("a budget")
+        }
+        assert_eq!(spoilt(|_| ()), Ok(()));
+        for spoil in [
+            (|state| account(state).memory_used += 1) as fn(&mut Snapshot),
+            |state| account(state).memory_reserved += 1,
+            |state| account(state).cpu_reserved += 1,
+            |state| account(state).cpu_left -= 1,
+        ] {
+            let why = spoilt(spoil).expect_err("a difference");
+            assert!(why.starts_with("budget 2 has Figures "), "{why}");
+        }
+        let gone = spoilt(|state| state.entries.truncate(1));
+        let why = "the next live budget is None; by the book Some(2)";
+        assert_eq!(gone, Err(why.to_string()));
+        let more = spoilt(|state| {
+            let entry = Entry {
+                id: 3,
+                ..state.entries[1]
+            };
+            state.entries.push(entry);
+        });
+        let why = "the next live budget is Some(3); by the book None";
+        assert_eq!(more, Err(why.to_string()));
+        let why = "the current thread is 7; by the book 0";
+        assert_eq!(spoilt(|state| state.current = 7), Err(why.to_string()));
+    }
+}

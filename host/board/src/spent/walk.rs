@@ -16,6 +16,8 @@ pub struct SpendingWalk {
     clock: u64,
     clocks_rise: bool,
     left_on_board: u64,
+    /// Whether the last call opens a board.
+    opens: bool,
     /// What comes next, the last first.
     planned: Vec<Next>,
 }
@@ -51,7 +53,7 @@ enum Kind {
 }
 
 /// How often each is drawn.
-const WEIGHTS: [(Kind, u64); 19] = [
+const WEIGHTS: [(Kind, u64); 21] = [
     (Kind::Spend, 22),
     (Kind::Carve, 14),
     (Kind::RemoveBudget, 7),
@@ -71,6 +73,9 @@ const WEIGHTS: [(Kind, u64); 19] = [
     (Kind::Other(Op::Wake), 4),
     (Kind::Other(Op::Kill), 2),
     (Kind::Other(Op::Thread), 1),
+    (Kind::Other(Op::Totals), 1),
+    // Refused.
+    (Kind::Other(Op::Open), 1),
 ];
 
 /// Most budgets that a story spends all of.
@@ -84,6 +89,7 @@ impl SpendingWalk {
             clock: 0,
             clocks_rise,
             left_on_board: 0,
+            opens: false,
             planned: Vec::new(),
         }
     }
@@ -98,7 +104,8 @@ impl SpendingWalk {
 
     /// The next call, for a board in this state. The first is an opening that is accepted.
     pub fn next_call(&mut self, state: &Snapshot) -> Call {
-        if self.left_on_board == 0 {
+        self.opens = self.left_on_board == 0;
+        if self.opens {
             return self.open();
         }
         self.left_on_board -= 1;
@@ -109,6 +116,11 @@ impl SpendingWalk {
         }
         let kind = self.kind();
         self.call(kind, state)
+    }
+
+    /// Whether the last call opens a board. Other openings are refused.
+    pub fn opens(&self) -> bool {
+        self.opens
     }
 
     /// Goes on to the clock value of a call that gave this number.

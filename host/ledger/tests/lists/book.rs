@@ -196,6 +196,38 @@ fn plannings() {
     assert_eq!(planned(&history), (IDLE, vec![]), "idle is in no queue");
 }
 
+/// "Wakes sleepers due at or before n, by rising id": none that was killed or woken meanwhile, nor a
+/// new thread under the id of one.
+#[test]
+fn sleepers() {
+    let mut history = History::default();
+    note(&mut history, &[OPEN]);
+    for id in [7, 4, 6, 5] {
+        let new = format!("create_user_thread {id} 1 1");
+        let start = format!("start {id} {START}");
+        note(&mut history, &[(&new, 0), (&start, 0)]);
+    }
+    for until in [3, 2, 3, 4] {
+        let sleep = format!("block_current 5 {until}");
+        note(&mut history, &[("plan 0", 0), (&sleep, 0)]);
+    }
+    note(&mut history, &[("plan 0", 0)]);
+    assert_eq!(planned(&history), (0, vec![]));
+    let mut woken = history.clone();
+    note(&mut woken, &[("tick 1", 0)]);
+    assert_eq!(planned(&woken), (0, vec![]));
+    note(&mut woken, &[("tick 3", 0)]);
+    assert_eq!(planned(&woken), (0, vec![4, 6, 7]));
+    let meanwhile = [
+        ("kill 4 1", 0),
+        ("create_user_thread 4 1 1", 0),
+        ("wake 7 0 0 0", 0),
+    ];
+    note(&mut history, &meanwhile);
+    note(&mut history, &[("tick 4", 0)]);
+    assert_eq!(planned(&history), (0, vec![7, 5, 6]));
+}
+
 /// "Tick without renewal, 300,000 left: 0 left"; then the thread is passed over until its budget is
 /// due, which the planning's test renews.
 #[test]
