@@ -56,8 +56,7 @@ impl Terms {
 /// # Errors
 /// The first finding, with the shortest list found.
 pub fn spent(count: u64, seed: u64) -> Result<Report, Finding> {
-    first_finding(Pair::new, Terms::P3, count, seed)
-        .map_err(|finding| shortest::shortest(finding, Pair::new, Terms::P3))
+    on(Pair::new, Terms::P3, count, seed)
 }
 
 /// The same on any side.
