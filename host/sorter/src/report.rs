@@ -186,6 +186,7 @@ fn spent(day: &Day) -> Vec<String> {
         });
     }
     lines.push(String::new());
+    lines.push("  These 10 ms are periods, counted from 0 ms.".to_string());
     lines.push("  A service that is switched on again has a new budget.".to_string());
     lines
 }

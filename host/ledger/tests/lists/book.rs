@@ -192,8 +192,9 @@ fn plannings() {
     );
     note(&mut history, &[("plan 3", 0)]);
     assert_eq!(planned(&history), (IDLE, vec![]));
-    note(&mut history, &[("plan 4", 0)]);
-    assert_eq!(planned(&history), (IDLE, vec![]), "idle is in no queue");
+    let (new, start) = ("create_user_thread 9 3 1", format!("start 9 {START}"));
+    note(&mut history, &[(new, 0), (&start, 0), ("plan 4", 0)]);
+    assert_eq!(planned(&history), (9, vec![]), "idle is in no queue");
 }
 
 /// "Wakes sleepers due at or before n, by rising id": none that was killed or woken meanwhile, nor a
@@ -213,6 +214,10 @@ fn sleepers() {
     }
     note(&mut history, &[("plan 0", 0)]);
     assert_eq!(planned(&history), (0, vec![]));
+    // A board that accepts this is mistaken; the book then has a thread without a wait.
+    let mut anew = history.clone();
+    note(&mut anew, &[("create_user_thread 4 1 1", 0), ("tick 3", 0)]);
+    assert_eq!(planned(&anew), (0, vec![6, 7]));
     let mut woken = history.clone();
     note(&mut woken, &[("tick 1", 0)]);
     assert_eq!(planned(&woken), (0, vec![]));
