@@ -162,7 +162,7 @@ fn table(day: &Day) -> Vec<String> {
 /// The most that each budget spent, with all below it.
 fn spent(day: &Day) -> Vec<String> {
     let mut lines = vec![
-        "  The most that each budget spent in any 10 ms, with all below it:".to_string(),
+        "  The most ms that each budget spent in any 10 ms, with all below it:".to_string(),
         String::new(),
         format!(
             "  {:<12}{:>7}{:>10}   in the 10 ms",
