@@ -30,6 +30,15 @@
  *
  * CARV_REFUSED_UNSOUND can come from every function that returns a number. "Refused with" names
  * the other numbers of a function.
+ *
+ * Times
+ *
+ * A time is in ns; tick n is the time n x CARV_TICK_NS. Any time is taken. What the caller owes for
+ * the board's main guarantee is a clock that doesn't fall: as long as the times of calls that are
+ * accepted, or refused with CARV_REFUSED_LIMIT, never fall from an opening on, in each period of
+ * CARV_PERIOD_NS counted from time 0 the CPU time charged to a budget and to all below it, those
+ * removed meanwhile included, is at most that budget's share. specs/Overspending.antt of
+ * crates/carv says it exactly. With a clock that falls it may be more.
  */
 #ifndef CARV_H
 #define CARV_H

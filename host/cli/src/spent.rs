@@ -35,7 +35,10 @@ impl Spent {
         };
         text += &match overspent {
             Some(found) => wrapped(&told(&found, names), 2),
-            None => wrapped("no 10 ms overspent, by any budget with all below it.", 2),
+            None => wrapped(
+                "no period of 10 ms overspent, by any budget with all below it.",
+                2,
+            ),
         };
         if overspent.is_some() && opened.clock.fell().is_none() {
             text += &wrapped("The clock never fell, so this must not be: report it.", 4);
@@ -84,14 +87,14 @@ fn fell(fall: Fall) -> String {
     let place = fall.place;
     let text = format!("the clock fell at line {place}, from {from} to {to}:");
     wrapped(
-        &format!("{text} it is not guaranteed that no 10 ms is overspent."),
+        &format!("{text} it is not guaranteed that no period is overspent."),
         2,
     )
 }
 
 fn told(found: &Overspent, names: &Names) -> String {
     format!(
-        "OVERSPENT: {} with all below it, {} of its {} in the 10 ms from {}.",
+        "OVERSPENT: {} with all below it, {} of its {} in the period from {}.",
         name(found.budget, names),
         in_ms(found.spent),
         in_ms(found.allowance),
@@ -116,7 +119,7 @@ fn most(opened: &Opened, names: &Names) -> String {
     };
     match shown.is_empty() {
         true => "No CPU time was charged.".to_string(),
-        false => format!("The most in any 10 ms: {}{rest}.", shown.join("; ")),
+        false => format!("The most in a period: {}{rest}.", shown.join("; ")),
     }
 }
 

@@ -38,7 +38,7 @@ pub fn checks(day: &Day) -> Vec<Check> {
             got().all(|(total, service)| total.most_ns <= service.share * TICK_NS),
         ),
         (
-            "No 10 ms was overspent, by any budget with all below it, and the clock never fell.",
+            "No period was overspent, by any budget with all below it, and the clock never fell.",
             day.clock_rose && day.ledger.overspent().is_none(),
         ),
         (
@@ -162,10 +162,10 @@ fn table(day: &Day) -> Vec<String> {
 /// The most that each budget spent, with all below it.
 fn spent(day: &Day) -> Vec<String> {
     let mut lines = vec![
-        "  The most ms that each budget spent in any 10 ms, with all below it:".to_string(),
+        "  The most ms that each budget spent in a period, with all below it:".to_string(),
         String::new(),
         format!(
-            "  {:<12}{:>7}{:>10}   in the 10 ms",
+            "  {:<12}{:>7}{:>10}   in the period",
             "budget", "share", "spent"
         ),
     ];
@@ -186,7 +186,7 @@ fn spent(day: &Day) -> Vec<String> {
         });
     }
     lines.push(String::new());
-    lines.push("  These 10 ms are periods, counted from 0 ms.".to_string());
+    lines.push("  Periods are of 10 ms, counted from 0 ms.".to_string());
     lines.push("  A service that is switched on again has a new budget.".to_string());
     lines
 }

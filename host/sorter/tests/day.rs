@@ -108,7 +108,7 @@ fn the_report_tells() {
         "\n  idle ",
         "\n  all                                                         403,712    524,288\n",
         "yes  No service got more than its share in any period.",
-        "yes  No 10 ms was overspent, by any budget with all below it, and the clock never fell.",
+        "yes  No period was overspent, by any budget with all below it, and the clock never fell.",
         "\n  root             10         9   from 120 ms\n",
         "\n  bag printer       1         1   from 10 ms\n",
         "\n  bag printer       1         1   from 1,800 ms\n",
@@ -182,7 +182,7 @@ fn checks_fail() {
 fn a_clock_that_fell_is_told() {
     let mut day = run();
     day.clock_rose = false;
-    assert!(report(&day).contains("NO   No 10 ms was overspent"));
+    assert!(report(&day).contains("NO   No period was overspent"));
 }
 
 /// Each budget that was ever live, the printer's two among them, spent no more than its share; what

@@ -29,7 +29,7 @@ use Rattle.carv.specs.Demands.{Ran, last, GivenAs, told, booked, AllWord
 use Rattle.carv.specs.laws.Demand1.{pieces, opened-is}
 
 -- refusal 1 moves nothing in the book
-one-written : (c : Call) (k : Book) → write c 1 k ≡ k
+pub one-written : (c : Call) (k : Book) → write c 1 k ≡ k
 one-written (on-objects c) k = refl
 one-written (create-user-thread i budget stack) k = refl
 one-written (start i space cspace root context) k = refl
@@ -76,7 +76,7 @@ follows (e ∷ es) a s h k = test (lent e)
           ∙ ap (λ (x : Book). write-all (numbers (lent-calls es) (decode a)) x) w);
     })
 
-served-fit : (es : List Made) → AllWords es → AllFit (lent-calls es)
+pub served-fit : (es : List Made) → AllWords es → AllFit (lent-calls es)
 served-fit [] f = tt
 served-fit (e ∷ es) f = test (lent e) (λ y. rw y (f .0, served-fit es (f .1))) (λ y. rw y (served-fit es (f .1)))
 
@@ -86,17 +86,17 @@ fit-join (x ∷ xs) ys f g = (f .0, fit-join xs ys (f .1) g)
 
 -- one run from an opening
 module _ (cpu memory : ℕ) (a₀ a out out′ : List ℕ) (o : Opens cpu memory a₀ out 0 a out′) where
-  start-is : Is a (opening cpu memory)
+  pub start-is : Is a (opening cpu memory)
   start-is = opened-is cpu memory a₀ a out out′ o .1
 
-  share : cpu ≤ period
+  pub share : cpu ≤ period
   share = opened-is cpu memory a₀ a out out′ o .0
 
   module _ (es : List Made) (h : Ran es a) where
-    board-is : decode (last es a) ≡ board-after (lent-calls es) cpu memory
+    pub board-is : decode (last es a) ≡ board-after (lent-calls es) cpu memory
     board-is = follows es a (start-is .sound) h (book.opening cpu memory) .board ∙ ap (after (lent-calls es)) (start-is .same)
 
-    book-is : booked es cpu memory ≡ book-after (lent-calls es) cpu memory
+    pub book-is : booked es cpu memory ≡ book-after (lent-calls es) cpu memory
     book-is = follows es a (start-is .sound) h (book.opening cpu memory) .book
         ∙ ap (λ (b : Board). write-all (numbers (lent-calls es) b) (book.opening cpu memory)) (start-is .same)
 

@@ -1,8 +1,8 @@
 -- The demands over exported calls, sentence by sentence: each theorem is drawn from `demand1`, `demand2` or `demand3`, with the fields written out. A claim that said less would
--- be refused here. Beside them P1's, P2's and P12's sentences, which also rest on what is proved of the definitions, or speak of any sound area. Assumes nothing.
+-- be refused here. Beside them P1's, P2's, P3's and P12's sentences, which also rest on what is proved of the definitions, or speak of any sound area. Assumes nothing.
 use mathlib.Core.Path.{_≡_, refl, sym, ap, subst, _∙_}
 use mathlib.Core.Bool.{Bool, true, false, cond, not, _&&_, _||_}
-use mathlib.Core.Option.{none}
+use mathlib.Core.Option.{Option, none, some}
 use mathlib.Core.List.{List, [], _∷_, _++_, map}
 use Prim.Native.Nat.{ℕ, _+_, _-_, _%_, _<_, _≤_}
 use native.Mathlib.Omega.{arith}
@@ -23,6 +23,9 @@ use Rattle.carv_objects_spec.specs.Rust as objects-rust
 use Rattle.carv_objects_spec.specs.Book as objects
 use Rattle.carv_objects_spec.specs.Book.{Budget, Figures, budget-of, figures, is-live}
 use Rattle.carv_objects_spec.specs.BookTotals.{summed, totals-of}
+use Rattle.carv_objects_spec.specs.Within.{within}
+use Rattle.carv_objects_spec.specs.Ledger.{Carved, under, spent, NeverFall}
+use Rattle.carv_objects_spec.specs.Noted.{charged-to}
 use Rattle.carv_objects_spec.specs.Demand1 as objects-demand1
 use Rattle.carv_objects_spec.specs.laws.SoundLaws.{sound-shown}
 use Rattle.carv_objects_spec.specs.laws.Question15 as question-15
@@ -39,7 +42,8 @@ use Rattle.carv_register_image.specs.Image.{register-image}
 use Rattle.carv_scheduler.specs.Image.{Filled}
 use Rattle.carv_scheduler_spec.specs.Scheduler.{Board, BoardReply, opening}
 use Rattle.carv_scheduler_spec.specs.Book.{Call, on-objects, create-user-thread, start, block-current, wake, is-blocked-on, kill, tick, plan, read-thread, read-current, read-switches, exit-of}
-use Rattle.carv_scheduler_spec.specs.Runs.{run}
+use Rattle.carv_scheduler_spec.specs.Runs.{run, Numbered}
+use Rattle.carv_scheduler_spec.specs.Ledger.{ledger-from, clock, moving-clock}
 use Rattle.carv_scheduler_spec.specs.Rust as rust
 use Rattle.carv_scheduler_spec.specs.Panics.{NoPanics}
 use Rattle.carv_scheduler_spec.specs.Demand1.{renewal-left}
@@ -48,11 +52,13 @@ use Rattle.carv_scheduler_spec.specs.Demand2.{rust-run, in-rust}
 use Rattle.carv_scheduler_spec.specs.laws.Demand2.{compared-after}
 use Rattle.carv_scheduler_spec.specs.Demand3.{Planned}
 use Rattle.carv.specs.C.{reported, Opens, has-image, Made, Ensures, lent}
-use Rattle.carv.specs.Demands.{Ran, last, GivenAs, GivenAsRust, AsRust, NoneAdded, AllWords, booked}
+use Rattle.carv.specs.Demands.{Ran, last, GivenAs, GivenAsRust, AsRust, NoneAdded, AllWords, told, booked}
+use Rattle.carv.specs.Overspending.{noted}
 use Rattle.carv.specs.laws.Reporting.{totals-written}
 use Rattle.carv.specs.laws.Demand1.{demand1}
 use Rattle.carv.specs.laws.Demand2.{demand2}
 use Rattle.carv.specs.laws.Demand3.{demand3}
+use Rattle.carv.specs.laws.Overspending.{no-period-overspent, no-period-overspent-by-clock, charges-noted}
 
 -- How a call is answered: the number, the values in the answer words, the board that the area says.
 pub answered-as : (e : Made) (z : BoardReply) → GivenAs e z
@@ -387,3 +393,57 @@ module _ (cpu memory : ℕ) (a₀ a out out′ : List ℕ) (o : Opens cpu memory
       → (z : BoardReply) × ((decode (e .left) ≡ z .after) × Planned n (booked front cpu memory) z)
   planned front rest e n h f c r =
       let (z, u) = demand3 cpu memory a₀ a out out′ o (front ++ (e ∷ rest)) h f .plannings front rest e n refl c r in (z, (u .0 .area .same, u .1))
+
+-- P3, by demand 3's lists of calls on one board from an accepted opening.
+
+map-told : (g : Numbered → Option ℕ) (es : List Made) → map (λ (e : Made). g (record { call = e .call; number = e .returned })) es ≡ map g (told es)
+map-told g [] = refl
+map-told g (e ∷ es) = ap (λ (l : List (Option ℕ)). g (record { call = e .call; number = e .returned }) ∷ l) (map-told g es)
+
+clocks-told : (T : ℕ) (es : List Made) → NeverFall T (map (λ (e : Made). clock (e .call)) es) → NeverFall T (map (λ (n : Numbered). clock (n .call)) (told es))
+clocks-told T es = subst (NeverFall T) (map-told (λ (n : Numbered). clock (n .call)) es)
+
+moving-told : (T : ℕ) (es : List Made) → NeverFall T (map (λ (e : Made). cond (eqb (e .returned) 0 || eqb (e .returned) 12) (clock (e .call)) none) es) → NeverFall T (map moving-clock (told es))
+moving-told T es = subst (NeverFall T) (map-told moving-clock es)
+
+module _ (cpu memory : ℕ) (a₀ a out out′ : List ℕ) (o : Opens cpu memory a₀ out 0 a out′) (es : List Made) (h : Ran es a) (f : AllWords es) where
+  -- "Take clock values that never fall over the whole history, and periods of 10 ms counted from time 0. In each, the CPU charged to a budget and to all below it, those removed
+  -- meanwhile included, is at most that budget's allowance. This is to be shown for every budget in every history": the budgets live after the first calls of the history, front
+  pub overspends-no-period : NeverFall 0 (map (λ (e : Made). clock (e .call)) es) → (front rest : List Made) → es ≡ front ++ rest
+      → (i : ℕ) → is-budget (decode (last front a) .registry) i ≡ true
+      → (p : ℕ) → spent (ledger-from (told es) cpu memory) p i ≤ account-of (decode (last front a) .registry) i .«cpu_allowance»
+  overspends-no-period rise front rest q i live = no-period-overspent-by-clock cpu memory a₀ a out out′ o es h f (clocks-told 0 es rise) .live front rest q i live .allowed
+
+  -- of the calls that are accepted or refused with 12 only these clock values are asked
+  pub overspends-no-period-moving : NeverFall 0 (map (λ (e : Made). cond (eqb (e .returned) 0 || eqb (e .returned) 12) (clock (e .call)) none) es) → (front rest : List Made) → es ≡ front ++ rest
+      → (i : ℕ) → is-budget (decode (last front a) .registry) i ≡ true
+      → (p : ℕ) → spent (ledger-from (told es) cpu memory) p i ≤ account-of (decode (last front a) .registry) i .«cpu_allowance»
+  overspends-no-period-moving rise front rest q i live = no-period-overspent cpu memory a₀ a out out′ o es h f (moving-told 0 es rise) .live front rest q i live .allowed
+
+  module _ (rise : NeverFall 0 (map (λ (e : Made). cond (eqb (e .returned) 0 || eqb (e .returned) 12) (clock (e .call)) none) es)) where
+    -- every budget of the ledger, removed or not
+    pub none-carved-overspends : (b : ℕ) (x : Carved) → at (ledger-from (told es) cpu memory .budgets) b ≡ some x → (p : ℕ) → spent (ledger-from (told es) cpu memory) p b ≤ x .allowance
+    none-carved-overspends = no-period-overspent cpu memory a₀ a out out′ o es h f (moving-told 0 es rise) .carved
+
+    -- those that were live are in it, as they were on the board, and "below" is P1's, removed since or not
+    pub live-in-ledger : (front rest : List Made) → es ≡ front ++ rest → (i : ℕ) → is-budget (decode (last front a) .registry) i ≡ true
+        → (at (ledger-from (told es) cpu memory .budgets) i
+        ≡ some (record { parent = payer-of (decode (last front a) .registry) i; allowance = account-of (decode (last front a) .registry) i .«cpu_allowance» }))
+        × ((b : ℕ) → under (ledger-from (told es) cpu memory .budgets) b i ≡ within (decode (last front a) .registry) b i)
+    live-in-ledger front rest q i live = let E = no-period-overspent cpu memory a₀ a out out′ o es h f (moving-told 0 es rise) .live front rest q i live in (E .listed, E .below)
+
+  -- what the ledger notes, the book takes: of a budget with the same start before and after a call, and of one that the call renewed
+  pub taken-and-noted : (e : Made) (i : ℕ) (x y : Budget) → at (booked es cpu memory .objects .budgets) i ≡ some x → at (booked (es ++ (e ∷ [])) cpu memory .objects .budgets) i ≡ some y
+      → (y .start ≡ x .start → y .taken-cpu + charged-to (noted es cpu memory .charges) i + x .carved-cpu
+      ≡ x .taken-cpu + charged-to (noted (es ++ (e ∷ [])) cpu memory .charges) i + y .carved-cpu)
+      × ((y .start ≡ x .start → ⊥) → (x .start < y .start) × (y .taken-cpu + charged-to (noted es cpu memory .charges) i + x .carved-cpu
+      ≡ charged-to (noted (es ++ (e ∷ [])) cpu memory .charges) i + y .carved-cpu))
+  taken-and-noted e i x y u v =
+      let B = charges-noted cpu memory a₀ a out out′ o es h f e i x y u v in
+      let with-test : Bool → ℕ = λ b. cond b (x .taken-cpu) 0 + charged-to (noted (es ++ (e ∷ [])) cpu memory .charges) i + y .carved-cpu in (
+        λ q. B .taken ∙ ap with-test (eq-eqb (y .start) (x .start) q),
+        λ q. (above (x .start) (y .start) (B .later) q, B .taken ∙ ap with-test (ne-eqb (y .start) (x .start) q) ∙ omega arith),
+      )
+    where
+      above : (x y : ℕ) → x ≤ y → (y ≡ x → ⊥) → x < y
+      above x y h d = omega arith

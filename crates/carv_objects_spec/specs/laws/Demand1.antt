@@ -120,17 +120,21 @@ leaves (read-account i) r = kept (read-account i) r (λ n. refl) (ask 7 (is-budg
 leaves (charge-of i) r = kept (charge-of i) r (λ n. refl) (ask 7 (has r i) r refl (accepted r _ refl))
 leaves (read-totals i) r = kept (read-totals i) r (λ n. refl) (ask 7 (is-budget r i) r refl (accepted r _ refl))
 
--- question 1 leaves no renewal
+-- only a refusal with 12 leaves a renewal
+pub only-12-renews : (c : Call) (n : ℕ) (r : Registry) → eqb n 12 ≡ false → renewal-left c n r ≡ none
+only-12-renews (create kind payer backing) n r h = refl
+only-12-renews (insert kind payer bytes) n r h = refl
+only-12-renews (create-budget parent cpu memory time) n r h = rw h
+only-12-renews (charge-more i bytes) n r h = refl
+only-12-renews (uncharge i bytes) n r h = refl
+only-12-renews (remove i time) n r h = refl
+only-12-renews (refill i time) n r h = refl
+only-12-renews (charge-cpu i ns time) n r h = rw h
+only-12-renews (pays-for-anything i) n r h = refl
+only-12-renews (read-account i) n r h = refl
+only-12-renews (charge-of i) n r h = refl
+only-12-renews (read-totals i) n r h = refl
+
+-- so question 1 leaves none
 pub one-renews-not : (c : Call) (r : Registry) → renewal-left c 1 r ≡ none
-one-renews-not (create kind payer backing) r = refl
-one-renews-not (insert kind payer bytes) r = refl
-one-renews-not (create-budget parent cpu memory time) r = refl
-one-renews-not (charge-more i bytes) r = refl
-one-renews-not (uncharge i bytes) r = refl
-one-renews-not (remove i time) r = refl
-one-renews-not (refill i time) r = refl
-one-renews-not (charge-cpu i ns time) r = refl
-one-renews-not (pays-for-anything i) r = refl
-one-renews-not (read-account i) r = refl
-one-renews-not (charge-of i) r = refl
-one-renews-not (read-totals i) r = refl
+one-renews-not c r = only-12-renews c 1 r refl

@@ -19,7 +19,7 @@ use Rattle.carv_objects_spec.specs.laws.Kept.{live-object}
 use Rattle.carv_objects_spec.specs.Within.{meets, within, Within, itself, by-payer}
 
 -- ids are 1 or more
-from-one : (r : Registry) → Sound r → (i : ℕ) (e : Entry) → at (r .rows) i ≡ some e → 1 ≤ i
+pub from-one : (r : Registry) → Sound r → (i : ℕ) (e : Entry) → at (r .rows) i ≡ some e → 1 ≤ i
 from-one r s i e h = test (ltb i 1)
     (λ a. let z = Table.at-below (r .rows) 1 (r .next) i (s .rising) (ltb-true i 1 a) in
     let b : _≡_ {A = ℕ} 0 1 = cc in absurd (omega arith))

@@ -1,10 +1,11 @@
 -- A refused call leaves what specs/Demand1.antt says, and no call on a board answers 1 or 15. Assumes nothing.
 use mathlib.Core.Path.{_≡_, refl, sym, ap, _∙_}
-use mathlib.Core.Bool.{not}
+use mathlib.Core.Bool.{false, not}
 use mathlib.Core.Option.{Option, none}
 use Prim.Native.Nat.{ℕ}
 use lib.Dec.{eqb, ltb}
 use lib.ListN.{length}
+use borrow.Author.Tests.{eqb-false}
 use Rattle.carv_objects_spec.specs.Registry.{Registry}
 use Rattle.carv_objects_spec.specs.laws.Demand1 as objects
 use Rattle.carv_objects_spec.specs.laws.Demand1.{Keeps, accepted, ask}
@@ -46,18 +47,27 @@ leaves read-current b = kept read-current b (λ n. refl) (accepted b _ refl)
 leaves read-switches b = kept read-switches b (λ n. refl) (accepted b _ refl)
 leaves (exit-of i) b = kept (exit-of i) b (λ n. refl) (accepted b _ refl)
 
--- question 1 leaves no renewal
+-- only a refusal with 12 leaves a renewal
+pub only-12-renews : (c : Call) (n : ℕ) (b : Board) → eqb n 12 ≡ false → renewal-left c n b ≡ none
+only-12-renews (on-objects c) n b h = objects.only-12-renews c n (b .registry) h
+only-12-renews (create-user-thread i budget stack) n b h = refl
+only-12-renews (start i space cspace root context) n b h = refl
+only-12-renews (block-current kind number) n b h = refl
+only-12-renews (wake i r) n b h = refl
+only-12-renews (is-blocked-on i kind number) n b h = refl
+only-12-renews (kill i cause) n b h = refl
+only-12-renews (tick m) n b h = refl
+only-12-renews (plan m) n b h = refl
+only-12-renews (read-thread i) n b h = refl
+only-12-renews read-current n b h = refl
+only-12-renews read-switches n b h = refl
+only-12-renews (exit-of i) n b h = refl
+
+-- so question 1 leaves none
 pub one-renews-not : (c : Call) (b : Board) → renewal-left c 1 b ≡ none
-one-renews-not (on-objects c) b = objects.one-renews-not c (b .registry)
-one-renews-not (create-user-thread i budget stack) b = refl
-one-renews-not (start i space cspace root context) b = refl
-one-renews-not (block-current kind number) b = refl
-one-renews-not (wake i r) b = refl
-one-renews-not (is-blocked-on i kind number) b = refl
-one-renews-not (kill i cause) b = refl
-one-renews-not (tick m) b = refl
-one-renews-not (plan m) b = refl
-one-renews-not (read-thread i) b = refl
-one-renews-not read-current b = refl
-one-renews-not read-switches b = refl
-one-renews-not (exit-of i) b = refl
+one-renews-not c b = only-12-renews c 1 b refl
+
+-- a call that is refused with another number leaves the board as it was
+pub stays-unless-12 : (c : Call) (b : Board) → eqb (run c b .number) 0 ≡ false → eqb (run c b .number) 12 ≡ false → run c b .after ≡ b
+stays-unless-12 c b not-0 not-12 =
+    leaves c b .left (eqb-false (run c b .number) 0 not-0) ∙ ap (λ (o : Option (ℕ × ℕ)). with-renewal o b) (only-12-renews c (run c b .number) b not-12)

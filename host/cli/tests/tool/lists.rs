@@ -18,7 +18,7 @@ fn a_bad_line_stops_the_list() {
     assert_eq!(ran.out.lines().count(), 1);
     assert_eq!(
         ran.err,
-        "carv: line 3: there is no call `creat`; did you mean `create KIND PAYER BACKING`?\n3 lines, 1 call: 1 accepted, 0 refused; 1 bad line; stopped at line 3\n  no 10 ms overspent, by any budget with all below it.\n    No CPU time was charged.\n"
+        "carv: line 3: there is no call `creat`; did you mean `create KIND PAYER BACKING`?\n3 lines, 1 call: 1 accepted, 0 refused; 1 bad line; stopped at line 3\n  no period of 10 ms overspent, by any budget with all below it.\n    No CPU time was charged.\n"
     );
 }
 

@@ -29,8 +29,8 @@ fn told(list: &str) -> String {
 fn of_the_example() {
     let ran = carv(&["replay", "--silent"], EXAMPLE);
     let expected = "
-  no 10 ms overspent, by any budget with all below it.
-    The most in any 10 ms: 5 ms of 10 ms by root, from 0 ms; 3 ms of 4 ms by counting, from 0 ms; 2
+  no period of 10 ms overspent, by any budget with all below it.
+    The most in a period: 5 ms of 10 ms by root, from 0 ms; 3 ms of 4 ms by counting, from 0 ms; 2
     ms of 2 ms by bag printer, from 0 ms.
 ";
     assert!(ran.err.ends_with(expected), "{}", ran.err);
@@ -40,8 +40,8 @@ fn of_the_example() {
 #[test]
 fn a_removed_budget_s_time_counts() {
     let expected = "
-  no 10 ms overspent, by any budget with all below it.
-    The most in any 10 ms: 10 ms of 10 ms by root, from 10 ms; 4 ms of 4 ms by bag printer, from 10
+  no period of 10 ms overspent, by any budget with all below it.
+    The most in a period: 10 ms of 10 ms by root, from 10 ms; 4 ms of 4 ms by bag printer, from 10
     ms.
 ";
     assert_eq!(told(&story("10_000_000", "6_000_000")), expected);
@@ -50,16 +50,19 @@ fn a_removed_budget_s_time_counts() {
 #[test]
 fn a_clock_that_fell() {
     let expected = "
-  the clock fell at line 5, from 10 ms to 0 ms: it is not guaranteed that no 10 ms is overspent.
-  OVERSPENT: root with all below it, 14 ms of its 10 ms in the 10 ms from 10 ms.
-    The most in any 10 ms: 14 ms of 10 ms by root, from 10 ms; 4 ms of 4 ms by bag printer, from 10
+  the clock fell at line 5, from 10 ms to 0 ms: it is not guaranteed that no period is overspent.
+  OVERSPENT: root with all below it, 14 ms of its 10 ms in the period from 10 ms.
+    The most in a period: 14 ms of 10 ms by root, from 10 ms; 4 ms of 4 ms by bag printer, from 10
     ms.
 ";
     assert_eq!(told(&story("0", "10_000_000")), expected);
     // It may fall without anything being overspent.
     let told = told(&story("0", "6_000_000"));
     assert!(told.starts_with("\n  the clock fell at line 5, "), "{told}");
-    assert!(told.contains("\n  no 10 ms overspent, "), "{told}");
+    assert!(
+        told.contains("\n  no period of 10 ms overspent, "),
+        "{told}"
+    );
 }
 
 /// Refused with another number than 12, a call's time doesn't count; with 12 it does.
@@ -108,7 +111,7 @@ fn boards_that_the_list_did_not_open() {
     assert!(!on(&["--json"], charge).out.contains("\"spent\""));
     let again = format!("{charge}{OPEN}\ncharge_cpu root 5 0\n");
     let told = on(&[], &again).err;
-    let expected = "The most in any 10 ms: 0.000005 ms of 10 ms by root, from 0 ms.\n";
+    let expected = "The most in a period: 0.000005 ms of 10 ms by root, from 0 ms.\n";
     assert!(told.ends_with(expected), "{told}");
     let refused = carv(&["replay", "--silent"], "open 10_000_001 0");
     assert!(!refused.err.contains("overspent"), "{}", refused.err);

@@ -1,0 +1,43 @@
+-- P3, "No period overspent", over areas of bytes and the exported C functions: `NoPeriodOverspent` is the statement, `NoPeriodOverspentByClock` the same in document 02's own words, and
+-- `ChargesNoted` says that what the ledger has as charged is what 01's book takes; laws/Overspending.antt proves them. Lists of calls, and what a call ensures, are those of Demands.antt. Assumes nothing.
+use mathlib.Core.Path.{_≡_}
+use mathlib.Core.Bool.{true}
+use mathlib.Core.List.{List, [], _∷_, _++_}
+use Prim.Native.Nat.{ℕ}
+use Rattle.carv_objects_spec.specs.Registry.{is-budget}
+use Rattle.carv_objects_spec.specs.Ledger.{Ledger, NoneOverspent}
+use Rattle.carv_objects_spec.specs.Noted.{charged-to, Accounted}
+use Rattle.carv_scheduler_spec.specs.Ledger.{ledger-from, ClockNeverFalls, MovingClockNeverFalls, EverLive}
+use Rattle.carv_scheduler.specs.Area.{decode}
+use Rattle.carv.specs.C.{Opens, Made}
+use Rattle.carv.specs.Demands.{Ran, last, AllWords, told, booked}
+
+-- The ledger is fed as the book is: the arguments and, of the answers, only the numbers. `spent` (Ledger.antt of carv_objects_spec) sums of it what was charged in a period to
+-- a budget and to all below it, and `EverLive` (Ledger.antt of carv_scheduler_spec) says what P3 says of one.
+abbrev pub noted : List Made → (cpu memory : ℕ) → Ledger
+noted es cpu memory = ledger-from (told es) cpu memory
+
+-- what holds of a list of calls es on an area a, opened with this CPU share and memory
+pub record WithinAllowances (es : List Made) (a : List ℕ) (cpu memory : ℕ) : Type 0 where
+  -- of every budget of the ledger, the root and each that was ever carved, in every period
+  pub carved : NoneOverspent (noted es cpu memory)
+  -- of every budget that was ever live: live in the area after the front of the list, or after all of it, with the allowance that it has there, removed since or not
+  pub live : (front rest : List Made) → es ≡ front ++ rest → (i : ℕ) → is-budget (decode (last front a) .registry) i ≡ true → EverLive (decode (last front a) .registry) (noted es cpu memory) i
+
+-- P3: for every list of calls from an accepted opening, those lent areas of wrong lengths included, in which the clock values of calls that are accepted or refused with 12 never
+-- fall. Calls refused otherwise move nothing, so they may carry any time.
+abbrev pub NoPeriodOverspent : Type 0
+NoPeriodOverspent = (cpu memory : ℕ) (a₀ a out out′ : List ℕ) → Opens cpu memory a₀ out 0 a out′ → (es : List Made) → Ran es a → AllWords es
+    → MovingClockNeverFalls (told es) → WithinAllowances es a cpu memory
+
+-- "Take clock values that never fall over the whole history": those of all calls, refused ones included.
+abbrev pub NoPeriodOverspentByClock : Type 0
+NoPeriodOverspentByClock = (cpu memory : ℕ) (a₀ a out out′ : List ℕ) → Opens cpu memory a₀ out 0 a out′ → (es : List Made) → Ran es a → AllWords es
+    → ClockNeverFalls (told es) → WithinAllowances es a cpu memory
+
+-- What is charged: behind every list of calls, whatever times they carry, a call moves of each budget in the book what it moves in the ledger as charged to it, and what it carves out of
+-- it. By demand 3 the book's figures are the board's lines.
+abbrev pub ChargesNoted : Type 0
+ChargesNoted = (cpu memory : ℕ) (a₀ a out out′ : List ℕ) → Opens cpu memory a₀ out 0 a out′ → (es : List Made) → Ran es a → AllWords es → (e : Made) (i : ℕ)
+    → Accounted (booked es cpu memory .objects) (booked (es ++ (e ∷ [])) cpu memory .objects) (charged-to (noted es cpu memory .charges) i)
+    (charged-to (noted (es ++ (e ∷ [])) cpu memory .charges) i) i
