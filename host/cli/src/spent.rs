@@ -168,17 +168,34 @@ mod tests {
         assert!(spent.json(&Names::default()).is_none());
     }
 
+    fn note(spent: &mut Spent, name: &str, arguments: &[u64], number: u64) {
+        let form = call::find(name).expect("a call");
+        spent.note(1, &Call::new(form, arguments.to_vec()), number);
+    }
+
+    /// The time of a call that is refused, not with 12, doesn't count; what is overspent without a
+    /// clock that fell is to be reported.
+    #[test]
+    fn overspent_though_the_clock_never_fell() {
+        let mut spent = Spent::default();
+        note(&mut spent, "open", &[10_000_000, 1_000_000], 0);
+        note(&mut spent, "charge_cpu", &[1, 10_000_000, 20_000_000], 0);
+        note(&mut spent, "charge_cpu", &[9, 1, 5], 7);
+        note(&mut spent, "charge_cpu", &[1, 1, 20_000_000], 0);
+        let expected = "  OVERSPENT: root with all below it, 10.000001 ms of its 10 ms in the period from 20 ms.
+    The clock never fell, so this must not be: report it.
+    The most in a period: 10.000001 ms of 10 ms by root, from 20 ms.
+";
+        assert_eq!(spent.text(&Names::default()), expected);
+    }
+
     #[test]
     fn many_budgets() {
-        let note = |spent: &mut Spent, name, arguments: &[u64]| {
-            let form = call::find(name).expect("a call");
-            spent.note(1, &Call::new(form, arguments.to_vec()), 0);
-        };
         let text = |spent: &Spent| spent.text(&Names::default()).replace("\n    ", " ");
         let mut spent = Spent::default();
-        note(&mut spent, "open", &[10_000_000, 1_000_000]);
+        note(&mut spent, "open", &[10_000_000, 1_000_000], 0);
         for _ in 0..=SHOWN {
-            note(&mut spent, "create_budget", &[1, 1_000, 0, 0]);
+            note(&mut spent, "create_budget", &[1, 1_000, 0, 0], 0);
         }
         let last = " overspent, by any budget with all below it. No CPU time was charged.\n";
         assert!(text(&spent).ends_with(last), "{}", text(&spent));
@@ -193,7 +210,7 @@ mod tests {
             " by budget 8, from 0 ms; and by 1 budget more.\n",
             " by budget 8, from 0 ms; and by 2 budgets more.\n",
         ]) {
-            note(&mut spent, "charge_cpu", &[id, 500, 0]);
+            note(&mut spent, "charge_cpu", &[id, 500, 0], 0);
             assert!(text(&spent).ends_with(last), "{}", text(&spent));
         }
     }

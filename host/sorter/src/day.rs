@@ -238,10 +238,7 @@ impl Sorter {
         day.idle_run_ticks = board.read_thread(ThreadId::IDLE)?.run_ticks;
         let history;
         (day.board, day.calls, history) = board.into_parts();
-        if let Some(opened) = history.opened() {
-            day.ledger = opened.ledger.clone();
-            day.clock_rose = opened.clock.fell_in_any_call().is_none();
-        }
+        day.note(&history);
         let restored = Board::from_bytes(day.board.as_bytes());
         day.sound = restored.is_ok_and(|restored| restored == day.board);
         Ok(day)

@@ -2,7 +2,7 @@
 
 use crate::services::SERVICES;
 use carv::Board;
-use carv_ledger::{Ledger, Most};
+use carv_ledger::{History, Ledger, Most};
 use carv_picture::Trace;
 use std::collections::BTreeMap;
 
@@ -94,6 +94,14 @@ pub struct Spent {
 }
 
 impl Day {
+    /// Notes what the calls of the day say, refused ones included.
+    pub fn note(&mut self, history: &History) {
+        if let Some(opened) = history.opened() {
+            self.ledger = opened.ledger.clone();
+            self.clock_rose = opened.clock.fell_in_any_call().is_none();
+        }
+    }
+
     /// What each budget that was ever live spent at most, in the order in which they were carved out.
     pub fn spent(&self) -> Vec<Spent> {
         let most = self.ledger.most();

@@ -3,6 +3,7 @@
 use carv::{
     Backing, Board, Context, Kind, Limits, ObjectId, Refusal, Space, TICK_NS, ThreadId, Wait,
 };
+use carv_ledger::{Call, History};
 use carv_picture::{Doing, Part, Rows, SHOWN, Trace};
 use sorter::day;
 use sorter::picture::{self, BEGINS};
@@ -112,6 +113,7 @@ fn the_report_tells() {
         "\n  root             10         9   from 120 ms\n",
         "\n  bag printer       1         1   from 10 ms\n",
         "\n  bag printer       1         1   from 1,800 ms\n",
+        "\n  Periods are of 10 ms, counted from 0 ms.\n",
     ] {
         assert!(report.contains(text), "{text}");
     }
@@ -177,12 +179,47 @@ fn checks_fail() {
     }
 }
 
-/// The guarantee is for clocks that never fall.
+/// The guarantee is for clocks that never fall, of refused calls too.
 #[test]
 fn a_clock_that_fell_is_told() {
     let mut day = run();
-    day.clock_rose = false;
+    let mut history = History::default();
+    for (name, arguments, number, rose) in [
+        ("open", &[10_000_000, 1_000][..], 0, true),
+        ("refill", &[1, 10_000_000], 0, true),
+        ("refill", &[9, 9_999_999], 7, false),
+    ] {
+        let call = Call::parse(name, arguments).expect("a call");
+        history.note(1, call, number);
+        day.note(&history);
+        assert_eq!(day.clock_rose, rose, "{name}");
+        let no = "NO   No period was overspent";
+        assert_eq!(report(&day).contains(no), !rose, "{name}");
+    }
+}
+
+/// Every budget is asked, in every period: here counting, by 1 ns in the last.
+#[test]
+fn a_service_that_overspent_is_told() {
+    let mut day = run();
+    let last = u128::from(LAST * TICK_NS);
+    let budgets = day.ledger.budgets().collect::<Vec<_>>();
+    let (id, counting) = budgets[1 + COUNTING];
+    let period = last / u128::from(PERIOD * TICK_NS);
+    let spent = day.ledger.spent(period, id);
+    day.ledger.note_charge(id, counting.allowance - spent, last);
+    assert!(report(&day).contains("yes  No period was overspent"));
+    day.ledger.note_charge(id, 1, last);
     assert!(report(&day).contains("NO   No period was overspent"));
+}
+
+/// A budget that spent nothing has its row.
+#[test]
+fn a_budget_that_spent_nothing() {
+    let mut day = run();
+    day.ledger.note_budget(99, 1, 3_000_000);
+    let row = "\n  no name           3         0\n";
+    assert!(report(&day).contains(row), "{}", report(&day));
 }
 
 /// Each budget that was ever live, the printer's two among them, spent no more than its share; what

@@ -140,10 +140,64 @@ fn figures(account: &Account) -> Figures {
 
 #[cfg(test)]
 mod tests {
+    use super::super::cases::Case;
     use super::*;
+    use carv_compare::board::make::{carve, open, refill, spend};
     use carv_compare::board::reference::Reference;
     use carv_compare::board::walk::Walk;
     use carv_oracle::Entry;
+
+    const MS: u64 = 1_000_000;
+
+    /// Notes calls with their numbers, those of a board that is mistaken among them.
+    fn noted(calls: &[(Call, u64)]) -> (Audit, Result<(), String>) {
+        let mut audit = Audit::new(Terms {
+            holds_book: false,
+            ..Terms::P3
+        });
+        let state = Snapshot::default();
+        let mut calls = calls.iter();
+        let found = calls.try_for_each(|(call, number)| audit.note(*call, *number, &state));
+        (audit, found)
+    }
+
+    /// Every budget is asked for, and told with its figures.
+    #[test]
+    fn what_is_overspent() {
+        let opened = [(open(10 * MS, 1_000), 0), (carve(1, 4 * MS, 100, 0), 0)];
+        let after = |calls: &[_]| noted(&[&opened, calls].concat()).1;
+        let all = (spend(2, 4 * MS, 30 * MS), 0);
+        assert_eq!(after(&[all]), Ok(()));
+        let below = "overspent: budget 2 and all below it spent 4000001 ns in period 3, its allowance is 4000000 ns";
+        assert_eq!(
+            after(&[all, (spend(2, 1, 39 * MS), 0)]),
+            Err(below.to_string())
+        );
+        let root = "overspent: budget 1 and all below it spent 10000001 ns in period 3, its allowance is 10000000 ns";
+        let rest = (spend(1, 6 * MS + 1, 30 * MS), 0);
+        assert_eq!(after(&[all, rest]), Err(root.to_string()));
+    }
+
+    /// A list whose clock falls is no list of P3's, unless the call is refused, not with 12.
+    #[test]
+    fn clocks_that_fall_are_told() {
+        let list = |number| [(open(0, 0), 0), (refill(1, 9), 0), (refill(1, 8), number)];
+        let why = "the clock fell from 9 to 8".to_string();
+        assert_eq!(noted(&list(0)).1, Err(why));
+        assert_eq!(noted(&list(7)).1, Ok(()));
+    }
+
+    /// The ledger of a board that ends is counted, and the next board has one of its own.
+    #[test]
+    fn boards_are_counted() {
+        let (mut audit, found) = noted(&[(open(10, 0), 0), (spend(1, 10, 5), 0)]);
+        assert_eq!((found, audit.report.boards), (Ok(()), 0));
+        assert_eq!(audit.end_board(), Ok(()));
+        assert_eq!((audit.report.boards, audit.report.calls), (1, 2));
+        assert_eq!(audit.report.case(Case::ToTheAllowance), 1);
+        assert_eq!(audit.end_board(), Ok(()), "nothing is opened");
+        assert_eq!(audit.report.boards, 1);
+    }
 
     /// Demand 3 on the Rust, on lists of all kinds: tables that fill up, clocks that fall.
     #[test]

@@ -192,6 +192,43 @@ mod tests {
     }
 
     #[test]
+    fn ticks() {
+        let running: [(&str, &[u64], u64); 5] = [
+            ("open", &[10 * MS, 1_000_000], 0),
+            ("create_budget", &[1, 2_500_000, 0, 0], 0),
+            ("create_user_thread", &[7, 2, 1], 0),
+            ("start", &[7, 0, 0, 0, 0, 0, 0, 0, 0, 0, 0], 0),
+            ("plan", &[0], 0),
+        ];
+        let tick: (&str, &[u64], u64) = ("tick", &[1], 0);
+        let after =
+            |calls: &[(&'static str, &'static [u64], u64)]| met(&[&running, calls].concat());
+        assert_eq!(after(&[tick]), [Case::WholeTick]);
+        assert_eq!(after(&[tick; 3]), [Case::TickBelow]);
+        assert_eq!(after(&[tick; 4]), [Case::TickOfNothing]);
+        let blocked = [("block_current", &[4, 1][..], 0), tick];
+        assert_eq!(after(&blocked), [Case::WholeTick, Case::TickOfStopped]);
+        let nothing = [&[tick; 3][..], &blocked].concat();
+        assert_eq!(after(&nothing), [Case::TickOfNothing]);
+        let removed = [("remove", &[2, 0][..], 0), tick];
+        assert_eq!(after(&removed), [Case::TickOnRemoved]);
+        assert_eq!(met(&[running[0], tick]), [], "thread 0 has no budget");
+    }
+
+    #[test]
+    fn generations() {
+        let carve = |parent: &'static [u64; 4]| ("create_budget", &parent[..], 0);
+        let list = [
+            ("open", &[10 * MS, 1_000_000][..], 0),
+            carve(&[1, MS, 10_000, 0]),
+            carve(&[2, MS, 1_000, 0]),
+            carve(&[3, MS, 0, 0]),
+        ];
+        assert_eq!(met(&list[..3]), [], "the third");
+        assert_eq!(met(&list), [Case::FourthGeneration]);
+    }
+
+    #[test]
     fn ledgers() {
         let mut ledger = Ledger::opening(10);
         ledger.note_budget(2, 1, 4);

@@ -446,3 +446,24 @@ fn pays(state: &Snapshot, id: u64) -> bool {
     let is_paid = |entry: &Entry| entry.payer == id && entry.id != id;
     state.entries.iter().any(is_paid)
 }
+
+#[cfg(test)]
+mod tests {
+    use super::*;
+
+    /// Most boards begin at time 0, some so late that the last times there are come.
+    #[test]
+    fn where_clocks_begin() {
+        let mut walk = SpendingWalk::new(1, true);
+        let begins = (0..200).map(|_| {
+            walk.left_on_board = 0;
+            walk.next_call(&Snapshot::default());
+            walk.clock
+        });
+        let begins: Vec<u64> = begins.collect();
+        let late = begins.iter().filter(|it| **it >= u64::MAX - 60 * PERIOD);
+        assert!(late.count() > 10);
+        let early = begins.iter().filter(|it| **it == 0);
+        assert!(early.count() > 100);
+    }
+}

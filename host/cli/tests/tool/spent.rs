@@ -82,6 +82,13 @@ fn refused_calls() {
     );
     let expected = format!("\"clock_fell\":{fall},\"any_clock_fell\":{fall},");
     assert!(too_much.out.contains(&expected), "{}", too_much.out);
+    // A time above 2^64 - 1 isn't there.
+    let late = carv(
+        &["replay", "--silent", "--json"],
+        &lines(&[OPEN, "tick 18_446_744_073_710", "tick 5"]),
+    );
+    let expected = "\"any_clock_fell\":{\"line\":3,\"from_ns\":null,\"to_ns\":5000000},";
+    assert!(late.out.contains(expected), "{}", late.out);
 }
 
 #[test]
@@ -90,6 +97,19 @@ fn as_json() {
     let expected = "{\"spent\":{\"overspent\":{\"id\":1,\"spent_ns\":14000000,\"cpu_ns\":10000000,\"period_start_ns\":10000000},\"clock_fell\":{\"line\":5,\"from_ns\":10000000,\"to_ns\":0},\"any_clock_fell\":{\"line\":5,\"from_ns\":10000000,\"to_ns\":0},\"budgets\":[{\"id\":1,\"name\":\"root\",\"parent\":1,\"cpu_ns\":10000000,\"most_ns\":14000000,\"period_start_ns\":10000000},{\"id\":2,\"name\":\"bag printer\",\"parent\":1,\"cpu_ns\":4000000,\"most_ns\":4000000,\"period_start_ns\":10000000}]}}";
     assert_eq!(ran.out.lines().next(), Some(expected));
     assert_eq!(ran.out.lines().count(), 2);
+    let dumped = carv(&["replay", "--silent", "--json", "--dump"], OPEN).out;
+    let objects = ["{\"board\":{", "{\"spent\":{", "{\"summary\":{"];
+    assert_eq!(dumped.lines().count(), objects.len());
+    for (line, object) in dumped.lines().zip(objects) {
+        assert!(line.starts_with(object), "{line}");
+    }
+    // Budgets that were never charged are there too, each with its parent.
+    let carve = "create_budget root 4_000_000 1_000 0";
+    let below = "create_budget 2 1_000_000 0 0";
+    let list = lines(&[OPEN, carve, below, "charge_cpu 3 5 0", carve]);
+    let ran = carv(&["replay", "--silent", "--json"], &list);
+    let expected = "{\"id\":2,\"name\":null,\"parent\":1,\"cpu_ns\":4000000,\"most_ns\":5,\"period_start_ns\":0},{\"id\":3,\"name\":null,\"parent\":2,\"cpu_ns\":1000000,\"most_ns\":5,\"period_start_ns\":0},{\"id\":4,\"name\":null,\"parent\":1,\"cpu_ns\":4000000,\"most_ns\":0,\"period_start_ns\":null}]}}\n";
+    assert!(ran.out.contains(expected), "{}", ran.out);
     let idle = carv(&["replay", "--silent", "--json"], OPEN);
     let part = "\"most_ns\":0,\"period_start_ns\":null}]}}\n";
     assert!(idle.out.contains(part), "{}", idle.out);
@@ -121,10 +141,12 @@ fn boards_that_the_list_did_not_open() {
 #[test]
 fn help_has_the_fields() {
     let help = carv(&["help", "json"], "").out;
+    let (_, help) = help.split_once("{\"spent\":").expect("the object");
+    let (help, _) = help.split_once("--dump").expect("what follows");
     let ran = carv(&["replay", "--silent", "--json"], &story("0", "10_000_000"));
     let first = ran.out.lines().next().expect("what was spent");
     for field in first.split('"').skip(1).step_by(2) {
-        let is_value = ["root", "bag printer"].contains(&field);
+        let is_value = ["spent", "root", "bag printer"].contains(&field);
         assert!(is_value || help.contains(field), "{field}");
     }
     assert!(carv(&["help", "replay"], "").out.contains("isn't known"));

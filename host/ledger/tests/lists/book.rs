@@ -62,8 +62,35 @@ fn refused_with_12() {
         assert_eq!(left(&opened, 1), expected, "{memory}");
     }
     let spent = ("charge_cpu 1 3_000_000 0", 0);
+    // What is used isn't free: 127 bytes are.
+    let (open, used) = (("open 10_000_000 1_127", 0), ("insert 9 1 1_000", 0));
+    let carve = ("create_budget 1 0 1 10_000_000", 12);
+    assert_eq!(left(&told(&[open, used, spent, carve]), 1), 7 * MS);
     let charge = ("charge_cpu 1 10_000_001 10_000_000", 12);
     assert_eq!(left(&told(&[OPEN, spent, charge]), 1), 10 * MS);
+}
+
+/// What an object of each kind that can be created costs, and what a removal credits: the charge as it is then.
+#[test]
+fn charges() {
+    for (kind, bytes) in [(2, 16_384), (3, 4_096), (4, 128), (5, 64), (7, 64)] {
+        let create = format!("create {kind} 1 1");
+        let opened = told(&[OPEN, (&create, 0)]);
+        assert_eq!(figures(&opened, 1).map(|it| it[0]), Some(bytes), "{kind}");
+    }
+    let list = [
+        OPEN,
+        ("create 3 1 1", 0),
+        ("create 3 1 1", 0),
+        ("charge_more 2 100", 0),
+        ("uncharge 2 4_000", 0),
+    ];
+    let used = |list: &[_]| figures(&told(list), 1).map(|it| it[0]);
+    assert_eq!(used(&list), Some(4_292));
+    assert_eq!(
+        used(&[&list[..], &[("remove 2 0", 0)]].concat()),
+        Some(4_096)
+    );
 }
 
 /// "Other refusals move nothing", an opening among them.
@@ -77,6 +104,7 @@ fn other_refusals() {
     let before = told(&list);
     for refused in [
         ("open 10_000_001 5", 2),
+        ("open 10_000_000 5", 1),
         ("create_budget 1 1 0 10_000_000", 6),
         ("refill 3 10_000_000", 7),
         ("charge_cpu 9 1 10_000_000", 7),
@@ -139,6 +167,9 @@ fn a_child_s_first_period() {
     assert_eq!(left(&told(&spent), 2), 0);
     let renewed = [&spent[..], &[("refill 2 30_000_000", 0)]].concat();
     assert_eq!(left(&told(&renewed), 2), 4 * MS);
+    // With a clock that fell the parent isn't renewed, and its start is ahead.
+    let fallen = [OPEN, ("refill 1 30_000_000", 0), carve];
+    assert_eq!(told(&fallen).book.budgets[&2].start, 30 * MS);
 }
 
 const START: &str = "0 0 0 0 0 0 0 0 0 0";

@@ -67,6 +67,10 @@ fn before_p2() {
     assert_eq!(opened.clock.fell(), None);
     let found = opened.ledger.overspent().map(|found| found.spent);
     assert_eq!(found, Some(14 * MS));
+    // And on the board that is opened behind it.
+    note(&mut history, &[OPEN, CARVE, SPEND, remove]);
+    let opened = history.opened().expect("an opening");
+    assert_eq!(opened.book.budgets[&1].start, 0, "not renewed");
 }
 
 /// Charges of a grandchild count for all above it, carved CPU for none, a sibling's not for it.
