@@ -97,6 +97,7 @@ fn as_json() {
     let expected = "{\"spent\":{\"overspent\":{\"id\":1,\"spent_ns\":14000000,\"cpu_ns\":10000000,\"period_start_ns\":10000000},\"clock_fell\":{\"line\":5,\"from_ns\":10000000,\"to_ns\":0},\"any_clock_fell\":{\"line\":5,\"from_ns\":10000000,\"to_ns\":0},\"budgets\":[{\"id\":1,\"name\":\"root\",\"parent\":1,\"cpu_ns\":10000000,\"most_ns\":14000000,\"period_start_ns\":10000000},{\"id\":2,\"name\":\"bag printer\",\"parent\":1,\"cpu_ns\":4000000,\"most_ns\":4000000,\"period_start_ns\":10000000}]}}";
     assert_eq!(ran.out.lines().next(), Some(expected));
     assert_eq!(ran.out.lines().count(), 2);
+    assert_eq!(ran.status, 0, "what was spent changes no exit status");
     let dumped = carv(&["replay", "--silent", "--json", "--dump"], OPEN).out;
     let objects = ["{\"board\":{", "{\"spent\":{", "{\"summary\":{"];
     assert_eq!(dumped.lines().count(), objects.len());
