@@ -33,12 +33,13 @@
  *
  * Times
  *
- * A time is in ns; tick n is the time n x CARV_TICK_NS. Any time is taken. What the caller owes for
- * the board's main guarantee is a clock that doesn't fall: as long as the times of calls that are
- * accepted, or refused with CARV_REFUSED_LIMIT, never fall from an opening on, in each period of
- * CARV_PERIOD_NS counted from time 0 the CPU time charged to a budget and to all below it, those
- * removed meanwhile included, is at most that budget's share. specs/Overspending.antt of
- * crates/carv says it exactly. With a clock that falls it may be more.
+ * A time is in ns; tick n is the time n x CARV_TICK_NS. What the caller owes for the board's main
+ * guarantee is a clock that doesn't fall: as long as the times of calls that are accepted, or
+ * refused with CARV_REFUSED_LIMIT, never fall from an opening on, in each period of CARV_PERIOD_NS
+ * counted from time 0 the CPU time charged to a budget and to all below it, those removed meanwhile
+ * included, is at most that budget's share, its allowance. specs/Overspending.antt of crates/carv
+ * says it exactly. With a clock that falls it may be more; no call asks for it. The tick that a
+ * sleep waits for is none of these times.
  */
 #ifndef CARV_H
 #define CARV_H

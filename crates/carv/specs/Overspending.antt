@@ -6,8 +6,8 @@ use mathlib.Core.List.{List, [], _∷_, _++_}
 use Prim.Native.Nat.{ℕ}
 use Rattle.carv_objects_spec.specs.Registry.{is-budget}
 use Rattle.carv_objects_spec.specs.Ledger.{Ledger, NoneOverspent}
-use Rattle.carv_objects_spec.specs.Noted.{charged-to, Accounted}
-use Rattle.carv_scheduler_spec.specs.Ledger.{ledger-from, ClockNeverFalls, MovingClockNeverFalls, EverLive}
+use Rattle.carv_objects_spec.specs.Noted.{Adds, charged-to, Accounted}
+use Rattle.carv_scheduler_spec.specs.Ledger.{ledger-from, clock, ClockNeverFalls, MovingClockNeverFalls, EverLive}
 use Rattle.carv_scheduler.specs.Area.{decode}
 use Rattle.carv.specs.C.{Opens, Made}
 use Rattle.carv.specs.Demands.{Ran, last, AllWords, told, booked}
@@ -35,9 +35,14 @@ abbrev pub NoPeriodOverspentByClock : Type 0
 NoPeriodOverspentByClock = (cpu memory : ℕ) (a₀ a out out′ : List ℕ) → Opens cpu memory a₀ out 0 a out′ → (es : List Made) → Ran es a → AllWords es
     → ClockNeverFalls (told es) → WithinAllowances es a cpu memory
 
--- What is charged: behind every list of calls, whatever times they carry, a call moves of each budget in the book what it moves in the ledger as charged to it, and what it carves out of
--- it. By demand 3 the book's figures are the board's lines.
+-- What is charged. Of the next call e behind a list of calls es:
+pub record NextNoted (es : List Made) (e : Made) (cpu memory : ℕ) : Type 0 where
+  -- it strikes nothing out of the ledger, and what it notes as charged is of its own clock value
+  pub adds : Adds (clock (e .call)) (noted es cpu memory) (noted (es ++ (e ∷ [])) cpu memory)
+  -- of each budget i that is live before it and behind it, the book takes what the call notes as charged to i, and what it carves out of i, and nothing else
+  pub taken : (i : ℕ) → Accounted (booked es cpu memory .objects) (booked (es ++ (e ∷ [])) cpu memory .objects) (charged-to (noted es cpu memory .charges) i)
+      (charged-to (noted (es ++ (e ∷ [])) cpu memory .charges) i) i
+
+-- Behind every list, whatever times its calls carry. By demand 3 the book's figures are the board's lines.
 abbrev pub ChargesNoted : Type 0
-ChargesNoted = (cpu memory : ℕ) (a₀ a out out′ : List ℕ) → Opens cpu memory a₀ out 0 a out′ → (es : List Made) → Ran es a → AllWords es → (e : Made) (i : ℕ)
-    → Accounted (booked es cpu memory .objects) (booked (es ++ (e ∷ [])) cpu memory .objects) (charged-to (noted es cpu memory .charges) i)
-    (charged-to (noted (es ++ (e ∷ [])) cpu memory .charges) i) i
+ChargesNoted = (cpu memory : ℕ) (a₀ a out out′ : List ℕ) → Opens cpu memory a₀ out 0 a out′ → (es : List Made) → Ran es a → AllWords es → (e : Made) → NextNoted es e cpu memory

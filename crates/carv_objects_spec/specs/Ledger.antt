@@ -10,7 +10,7 @@ use Rattle.carv_area.specs.Table.{Row, at}
 use Rattle.carv_budget.specs.Account.{period}
 use Rattle.carv_objects_spec.specs.Book.{Call, create, insert, create-budget, charge-more, uncharge, remove, refill, charge-cpu, pays-for-anything, read-account, charge-of, read-totals}
 
--- a budget, the root's among them: the budget that it was carved from, and its allowance
+-- a budget, the root among them: the budget that it was carved from, and its allowance
 pub record Carved : Type 0 where
   pub parent : ℕ
   pub allowance : ℕ
@@ -101,3 +101,12 @@ abbrev pub NeverFall : (last : ℕ) → List (Option ℕ) → Type 0
 NeverFall last [] = Unit {0}
 NeverFall last (none ∷ ts) = NeverFall last ts
 NeverFall last (some time ∷ ts) = (last ≤ time) × NeverFall time ts
+
+-- The same as a sentence: wherever t stands before u among the clock values, t is at most u. laws/Clock.antt has that `NeverFall` says this, no more and no less.
+pub data Among (t : ℕ) : List (Option ℕ) → Type 0 where
+  here : (ts : List (Option ℕ)) → Among t (some t ∷ ts)
+  behind : (o : Option ℕ) (ts : List (Option ℕ)) → Among t ts → Among t (o ∷ ts)
+
+pub data Before (t u : ℕ) : List (Option ℕ) → Type 0 where
+  first : (ts : List (Option ℕ)) → Among u ts → Before t u (some t ∷ ts)
+  later : (o : Option ℕ) (ts : List (Option ℕ)) → Before t u ts → Before t u (o ∷ ts)

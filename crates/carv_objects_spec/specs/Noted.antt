@@ -1,14 +1,27 @@
--- What P3's ledger notes, held against 01's book: of each budget the book takes the CPU time that the ledger notes as charged to it, and what is carved out of it, and nothing else.
--- Assumes nothing.
+-- What a call notes in P3's ledger: nothing is struck out, each charge bears the call's clock value, and, held against 01's book, of each budget the book takes the CPU time that the
+-- ledger notes as charged to it, and what is carved out of it, and nothing else. Assumes nothing.
 use mathlib.Core.Path.{_≡_}
 use mathlib.Core.Bool.{cond}
-use mathlib.Core.Option.{some}
-use mathlib.Core.List.{List, [], _∷_}
+use mathlib.Core.Option.{Option, some}
+use mathlib.Core.List.{List, [], _∷_, _++_}
 use Prim.Native.Nat.{ℕ, _+_, _≤_}
 use lib.Dec.{eqb}
-use Rattle.carv_area.specs.Table.{at}
+use Rattle.carv_area.specs.Table.{Row, at}
 use Rattle.carv_objects_spec.specs.Book.{Book, Budget}
-use Rattle.carv_objects_spec.specs.Ledger.{Charge}
+use Rattle.carv_objects_spec.specs.Ledger.{Carved, Charge, Ledger}
+
+-- these charges are of this time
+abbrev pub Timed : (time : Option ℕ) → List Charge → Type 0
+Timed time [] = Unit {0}
+Timed time (x ∷ xs) = (time ≡ some (x .time)) × Timed time xs
+
+-- From l to l′ nothing is struck out: budgets and charges come in front of those that were there, and the charges are of this time.
+pub record Adds (time : Option ℕ) (l l′ : Ledger) : Type 0 where
+  pub carved : List (Row Carved)
+  pub budgets : l′ .budgets ≡ carved ++ l .budgets
+  pub charged : List Charge
+  pub charges : l′ .charges ≡ charged ++ l .charges
+  pub timed : Timed time charged
 
 -- what was charged to budget i itself, in all periods
 abbrev pub charged-to : List Charge → (i : ℕ) → ℕ

@@ -1,7 +1,8 @@
 -- What is proved of the definitions. Questions: each question of each call. Removal: what a removal leaves, P2. Question15: what a removal need not ask, P12. Within,
 -- Totals: P1's "below" and sums; BookTotals: those of the book; TotalsCases: a tree of budgets, written out. Charging: charges added, split, undone and in another order, P7;
 -- BookCharging: these by the book; ChargingCases: a few budgets, written out. Spending: P3's invariant, and its steps; Overspending, Listed: each call keeps it, and the ledger has
--- every live budget; LedgerWithin: its "below" is P1's; Noted: it notes what the book takes; LedgerCases: a small ledger, written out. Demand1: what a refusal leaves. Kept: calls keep soundness, which SoundFacts has as facts.
+-- every live budget; LedgerWithin: its "below" is P1's; Noted: it notes what the book takes, and strikes nothing out; Clock: what
+-- "never fall" says; LedgerCases: a small ledger, written out. Demand1: what a refusal leaves. Kept: calls keep soundness, which SoundFacts has as facts.
 -- Refines, Demand2: the calls, and lists of them, are the Rust's. Panics: the Rust doesn't; PanicCases: its lists of what can panic, written out. History: the book's figures
 -- are the lines; Sentences says it field by field. Added, Limits, Edges, Unsound: which refusals are added, codes and limits, document 01's marked cases, and what is not sound,
 -- written out. The others serve these.
@@ -32,6 +33,7 @@ pub mod Overspending
 pub mod Listed
 pub mod LedgerWithin
 pub mod Noted
+pub mod Clock
 pub mod LedgerCases
 pub mod Edges
 pub mod Asked

@@ -36,11 +36,12 @@
 //! # Ok::<(), Refusal>(())
 //! ```
 //!
-//! Times are in ns, and any time is taken. What the host owes for the board's main guarantee is a
-//! clock that doesn't fall: as long as the times of calls that are accepted, or refused with
-//! [`Refusal::Limit`], never fall from an opening on, in each period of [`PERIOD_NS`] counted from
-//! time 0 the CPU time charged to a budget and to all below it, those removed meanwhile included,
-//! is at most that budget's share. With a clock that falls it may be more.
+//! Times are in ns, and tick n is the time n × [`TICK_NS`]. What the host owes for the board's main
+//! guarantee is a clock that doesn't fall: as long as the times of calls that are accepted, or
+//! refused with [`Refusal::Limit`], never fall from an opening on, in each period of [`PERIOD_NS`]
+//! counted from time 0 the CPU time charged to a budget and to all below it, those removed meanwhile
+//! included, is at most that budget's share. With a clock that falls it may be more; no call asks
+//! for it. The tick that a sleep waits for is none of these times.
 //!
 //! The crate is `no_std` and allocates nothing. Its build script links `libcarv.a` from
 //! the folder that `CARV_LIB_DIR` names, by default `target/staticlib` of the repository.

@@ -29,10 +29,11 @@ impl Spent {
             return String::new();
         };
         let overspent = opened.ledger.overspent();
-        let mut text = match opened.clock.fell() {
-            None => String::new(),
-            Some(fall) => fell(fall),
+        let mut text = match self.0.openings() {
+            1 => String::new(),
+            _ => wrapped(&format!("from the opening at line {} on:", opened.place), 2),
         };
+        text += &opened.clock.fell().map(fell).unwrap_or_default();
         text += &match overspent {
             Some(found) => wrapped(&told(&found, names), 2),
             None => wrapped(
@@ -48,7 +49,12 @@ impl Spent {
 
     /// As JSON; none if the list opened no board.
     pub fn json(&self, names: &Names) -> Option<Json> {
-        let Opened { ledger, clock, .. } = self.0.opened()?;
+        let Opened {
+            place,
+            ledger,
+            clock,
+            ..
+        } = self.0.opened()?;
         let most = ledger.most();
         let budgets = ledger.budgets().map(|(id, carved)| {
             let most = most.get(&id);
@@ -73,6 +79,7 @@ impl Spent {
             ])
         });
         let spent = Json::object([
+            ("opened_line", (*place).into()),
             ("overspent", overspent.into()),
             ("clock_fell", clock.fell().map(fall).into()),
             ("any_clock_fell", clock.fell_in_any_call().map(fall).into()),

@@ -7,12 +7,15 @@ use crate::{ACCEPTED, Book, Call, Clock, Ledger};
 #[derive(Clone, Debug, Default)]
 pub struct History {
     opened: Option<Opened>,
+    openings: u64,
     is_before_p2: bool,
 }
 
 /// What the calls of an opened board say.
 #[derive(Clone, Debug)]
 pub struct Opened {
+    /// Where the opening stands, as the list counts.
+    pub place: u64,
     /// Document 01's book.
     pub book: Book,
     /// Document 02's ledger.
@@ -25,14 +28,19 @@ impl History {
     /// A history of boards whose removals renew nobody, as before P2.
     pub fn before_p2() -> Self {
         Self {
-            opened: None,
             is_before_p2: true,
+            ..Self::default()
         }
     }
 
     /// What the calls say since the last accepted opening, if there was one.
     pub fn opened(&self) -> Option<&Opened> {
         self.opened.as_ref()
+    }
+
+    /// How many openings were accepted.
+    pub fn openings(&self) -> u64 {
+        self.openings
     }
 
     /// Notes a call with its refusal number; `place` is where it stands, as the list counts.
@@ -42,7 +50,9 @@ impl History {
                 true => Book::opening_before_p2(cpu, memory),
                 false => Book::opening(cpu, memory),
             };
+            self.openings += 1;
             self.opened = Some(Opened {
+                place,
                 book,
                 ledger: Ledger::opening(cpu),
                 clock: Clock::default(),

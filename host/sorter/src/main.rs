@@ -26,9 +26,9 @@ usage: sorter [--svg PATH] [--from MS] [--calls PATH]
 
 What it prints: a diary of the day; a table of what each service got of every 10 ms, on average
 and at most, against its share, in how many periods it was held back (it had work and no time
-left), and its memory, with all that is carved out of it; the most that each budget spent in any
-10 ms, with all below it, by the calls and their refusals alone; then checks, each answered with yes
-or NO.
+left), and its memory, with all that is carved out of it; the most that each budget spent in a
+period, with all below it, by the calls and their refusals alone; then checks, each answered with
+yes or NO.
 
 To try something else, change the table of services or the events in sorter/src/services.rs.
 

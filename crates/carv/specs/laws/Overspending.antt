@@ -1,21 +1,21 @@
 -- P3 is proved over exported calls: the ledger of a list is that of its calls that were lent areas of their length, and the clock of these doesn't fall either. Assumes nothing.
 use mathlib.Core.Path.{_≡_, refl, sym, ap, _∙_, subst}
-use mathlib.Core.Bool.{true, false, cond}
+use mathlib.Core.Bool.{true}
 use mathlib.Core.Option.{Option, none, some}
 use mathlib.Core.List.{List, [], _∷_, _++_, map}
 use Prim.Native.Nat.{ℕ, _≤_}
 use Rattle.carv_area.specs.laws.Table.{test}
 use Rattle.carv_objects_spec.specs.Registry.{is-budget}
-use Rattle.carv_objects_spec.specs.Noted.{charged-to, Accounted}
+use Rattle.carv_objects_spec.specs.Noted.{Adds, charged-to, Accounted}
 use Rattle.carv_objects_spec.specs.Ledger as objects-ledger
 use Rattle.carv_objects_spec.specs.Ledger.{Ledger, NoneOverspent, NeverFall}
 use Rattle.carv_scheduler_spec.specs.Scheduler.{Board, opening}
 use Rattle.carv_scheduler_spec.specs.Book as book
 use Rattle.carv_scheduler_spec.specs.Book.{Book, Call, write}
-use Rattle.carv_scheduler_spec.specs.Runs.{run, Numbered, numbers, write-all, book-after, AllFit}
-use Rattle.carv_scheduler_spec.specs.Ledger.{note, note-all, ledger-after, moving-clock, MovingClockNeverFalls, EverLive}
+use Rattle.carv_scheduler_spec.specs.Runs.{run, Numbered, numbers, write-all, AllFit}
+use Rattle.carv_scheduler_spec.specs.Ledger.{note, note-all, ledger-after, clock, moving-clock, MovingClockNeverFalls, EverLive}
 use Rattle.carv_scheduler_spec.specs.laws.Overspending as definitions
-use Rattle.carv_scheduler_spec.specs.laws.Noted.{next-noted}
+use Rattle.carv_scheduler_spec.specs.laws.Noted.{next-noted, note-adds}
 use Rattle.carv_scheduler.specs.Area.{decode, sound-area}
 use Rattle.carv.specs.C.{Opens, Made, lent}
 use Rattle.carv.specs.Demands.{Ran, last, AllWords, told, booked}
@@ -120,12 +120,17 @@ ledger-more [] e k l = refl
 ledger-more (x ∷ es) e k l = ledger-more es e (write (x .call) (x .returned) k) (note (x .call) (x .returned) k l)
 
 pub charges-noted : ChargesNoted
-charges-noted cpu memory a₀ a out out′ o es h f e i =
-    subst (λ (k : Book). Accounted (booked es cpu memory .objects) (k .objects) (charged-to (noted es cpu memory .charges) i) (charged-to (noted (es ++ (e ∷ [])) cpu memory .charges) i) i)
-    (sym (book-more es e (book.opening cpu memory)))
-    (subst (λ (l : Ledger). Accounted (booked es cpu memory .objects) (write (e .call) (e .returned) (booked es cpu memory) .objects) (charged-to (noted es cpu memory .charges) i) (charged-to (l .charges) i) i)
-    (sym (ledger-more es e (book.opening cpu memory) (objects-ledger.opening cpu)))
-    (next-is cpu memory a₀ a out out′ o es h f e i))
+charges-noted cpu memory a₀ a out out′ o es h f e =
+    let book-is-more = book-more es e (book.opening cpu memory) in
+    let ledger-is-more = ledger-more es e (book.opening cpu memory) (objects-ledger.opening cpu) in
+    record {
+      adds = subst (Adds (clock (e .call)) (noted es cpu memory)) (sym ledger-is-more) (note-adds (e .call) (e .returned) (booked es cpu memory) (noted es cpu memory));
+      taken = λ i.
+          subst (λ (k : Book). Accounted (booked es cpu memory .objects) (k .objects) (charged-to (noted es cpu memory .charges) i) (charged-to (noted (es ++ (e ∷ [])) cpu memory .charges) i) i)
+          (sym book-is-more)
+          (subst (λ (l : Ledger). Accounted (booked es cpu memory .objects) (write (e .call) (e .returned) (booked es cpu memory) .objects) (charged-to (noted es cpu memory .charges) i)
+          (charged-to (l .charges) i) i) (sym ledger-is-more) (next-is cpu memory a₀ a out out′ o es h f e i));
+    }
 
 pub no-period-overspent : NoPeriodOverspent
 no-period-overspent cpu memory a₀ a out out′ o es h f rise = within-allowances cpu memory a₀ a out out′ o es h f rise

@@ -23,9 +23,10 @@ use Rattle.carv_objects_spec.specs.Rust as objects-rust
 use Rattle.carv_objects_spec.specs.Book as objects
 use Rattle.carv_objects_spec.specs.Book.{Budget, Figures, budget-of, figures, is-live}
 use Rattle.carv_objects_spec.specs.BookTotals.{summed, totals-of}
-use Rattle.carv_objects_spec.specs.Within.{within}
-use Rattle.carv_objects_spec.specs.Ledger.{Carved, under, spent, NeverFall}
-use Rattle.carv_objects_spec.specs.Noted.{charged-to}
+use Rattle.carv_objects_spec.specs.Within as objects-within
+use Rattle.carv_objects_spec.specs.Ledger.{Carved, Charge, under, spent, NeverFall, Before}
+use Rattle.carv_objects_spec.specs.laws.Clock.{never-falls-shown}
+use Rattle.carv_objects_spec.specs.Noted.{Timed, charged-to}
 use Rattle.carv_objects_spec.specs.Demand1 as objects-demand1
 use Rattle.carv_objects_spec.specs.laws.SoundLaws.{sound-shown}
 use Rattle.carv_objects_spec.specs.laws.Question15 as question-15
@@ -53,7 +54,7 @@ use Rattle.carv_scheduler_spec.specs.laws.Demand2.{compared-after}
 use Rattle.carv_scheduler_spec.specs.Demand3.{Planned}
 use Rattle.carv.specs.C.{reported, Opens, has-image, Made, Ensures, lent}
 use Rattle.carv.specs.Demands.{Ran, last, GivenAs, GivenAsRust, AsRust, NoneAdded, AllWords, told, booked}
-use Rattle.carv.specs.Overspending.{noted}
+use Rattle.carv.specs.Overspending.{noted, WithinAllowances}
 use Rattle.carv.specs.laws.Reporting.{totals-written}
 use Rattle.carv.specs.laws.Demand1.{demand1}
 use Rattle.carv.specs.laws.Demand2.{demand2}
@@ -400,37 +401,47 @@ map-told : (g : Numbered → Option ℕ) (es : List Made) → map (λ (e : Made)
 map-told g [] = refl
 map-told g (e ∷ es) = ap (λ (l : List (Option ℕ)). g (record { call = e .call; number = e .returned }) ∷ l) (map-told g es)
 
-clocks-told : (T : ℕ) (es : List Made) → NeverFall T (map (λ (e : Made). clock (e .call)) es) → NeverFall T (map (λ (n : Numbered). clock (n .call)) (told es))
-clocks-told T es = subst (NeverFall T) (map-told (λ (n : Numbered). clock (n .call)) es)
+-- the clock values of the calls es, and of those that are accepted or refused with 12
+abbrev all-clocks : List Made → List (Option ℕ)
+all-clocks es = map (λ (e : Made). clock (e .call)) es
 
-moving-told : (T : ℕ) (es : List Made) → NeverFall T (map (λ (e : Made). cond (eqb (e .returned) 0 || eqb (e .returned) 12) (clock (e .call)) none) es) → NeverFall T (map moving-clock (told es))
-moving-told T es = subst (NeverFall T) (map-told moving-clock es)
+abbrev moving-clocks : List Made → List (Option ℕ)
+moving-clocks es = map (λ (e : Made). cond (eqb (e .returned) 0 || eqb (e .returned) 12) (clock (e .call)) none) es
 
 module _ (cpu memory : ℕ) (a₀ a out out′ : List ℕ) (o : Opens cpu memory a₀ out 0 a out′) (es : List Made) (h : Ran es a) (f : AllWords es) where
   -- "Take clock values that never fall over the whole history, and periods of 10 ms counted from time 0. In each, the CPU charged to a budget and to all below it, those removed
-  -- meanwhile included, is at most that budget's allowance. This is to be shown for every budget in every history": the budgets live after the first calls of the history, front
-  pub overspends-no-period : NeverFall 0 (map (λ (e : Made). clock (e .call)) es) → (front rest : List Made) → es ≡ front ++ rest
+  -- meanwhile included, is at most that budget's allowance. This is to be shown for every budget in every history": for every budget that is live after the first calls of the
+  -- history, front, however many these are
+  pub overspends-no-period : ((t u : ℕ) → Before t u (all-clocks es) → t ≤ u) → (front rest : List Made) → es ≡ front ++ rest
       → (i : ℕ) → is-budget (decode (last front a) .registry) i ≡ true
       → (p : ℕ) → spent (ledger-from (told es) cpu memory) p i ≤ account-of (decode (last front a) .registry) i .«cpu_allowance»
-  overspends-no-period rise front rest q i live = no-period-overspent-by-clock cpu memory a₀ a out out′ o es h f (clocks-told 0 es rise) .live front rest q i live .allowed
+  overspends-no-period rise front rest q i live =
+      no-period-overspent-by-clock cpu memory a₀ a out out′ o es h f (subst (NeverFall 0) (map-told (λ (n : Numbered). clock (n .call)) es) (never-falls-shown (all-clocks es) rise))
+      .live front rest q i live .allowed
 
-  -- of the calls that are accepted or refused with 12 only these clock values are asked
-  pub overspends-no-period-moving : NeverFall 0 (map (λ (e : Made). cond (eqb (e .returned) 0 || eqb (e .returned) 12) (clock (e .call)) none) es) → (front rest : List Made) → es ≡ front ++ rest
-      → (i : ℕ) → is-budget (decode (last front a) .registry) i ≡ true
-      → (p : ℕ) → spent (ledger-from (told es) cpu memory) p i ≤ account-of (decode (last front a) .registry) i .«cpu_allowance»
-  overspends-no-period-moving rise front rest q i live = no-period-overspent cpu memory a₀ a out out′ o es h f (moving-told 0 es rise) .live front rest q i live .allowed
+  module _ (rise : (t u : ℕ) → Before t u (moving-clocks es) → t ≤ u) where
+    within : WithinAllowances es a cpu memory
+    within = no-period-overspent cpu memory a₀ a out out′ o es h f (subst (NeverFall 0) (map-told moving-clock es) (never-falls-shown (moving-clocks es) rise))
 
-  module _ (rise : NeverFall 0 (map (λ (e : Made). cond (eqb (e .returned) 0 || eqb (e .returned) 12) (clock (e .call)) none) es)) where
+    -- the same, where only calls that are accepted or refused with 12 are asked for their clock values
+    pub overspends-no-period-moving : (front rest : List Made) → es ≡ front ++ rest → (i : ℕ) → is-budget (decode (last front a) .registry) i ≡ true
+        → (p : ℕ) → spent (ledger-from (told es) cpu memory) p i ≤ account-of (decode (last front a) .registry) i .«cpu_allowance»
+    overspends-no-period-moving front rest q i live = within .live front rest q i live .allowed
+
     -- every budget of the ledger, removed or not
     pub none-carved-overspends : (b : ℕ) (x : Carved) → at (ledger-from (told es) cpu memory .budgets) b ≡ some x → (p : ℕ) → spent (ledger-from (told es) cpu memory) p b ≤ x .allowance
-    none-carved-overspends = no-period-overspent cpu memory a₀ a out out′ o es h f (moving-told 0 es rise) .carved
+    none-carved-overspends = within .carved
 
     -- those that were live are in it, as they were on the board, and "below" is P1's, removed since or not
     pub live-in-ledger : (front rest : List Made) → es ≡ front ++ rest → (i : ℕ) → is-budget (decode (last front a) .registry) i ≡ true
         → (at (ledger-from (told es) cpu memory .budgets) i
         ≡ some (record { parent = payer-of (decode (last front a) .registry) i; allowance = account-of (decode (last front a) .registry) i .«cpu_allowance» }))
-        × ((b : ℕ) → under (ledger-from (told es) cpu memory .budgets) b i ≡ within (decode (last front a) .registry) b i)
-    live-in-ledger front rest q i live = let E = no-period-overspent cpu memory a₀ a out out′ o es h f (moving-told 0 es rise) .live front rest q i live in (E .listed, E .below)
+        × ((b : ℕ) → under (ledger-from (told es) cpu memory .budgets) b i ≡ objects-within.within (decode (last front a) .registry) b i)
+    live-in-ledger front rest q i live = let E = within .live front rest q i live in (E .listed, E .below)
+
+  -- nothing is struck out of the ledger, and a charge is noted at its call's clock value
+  pub nothing-struck-out : (e : Made) → (xs : List Charge) × (ledger-from (told (es ++ (e ∷ []))) cpu memory .charges ≡ xs ++ ledger-from (told es) cpu memory .charges) × Timed (clock (e .call)) xs
+  nothing-struck-out e = let A = charges-noted cpu memory a₀ a out out′ o es h f e .adds in (A .charged, A .charges, A .timed)
 
   -- what the ledger notes, the book takes: of a budget with the same start before and after a call, and of one that the call renewed
   pub taken-and-noted : (e : Made) (i : ℕ) (x y : Budget) → at (booked es cpu memory .objects .budgets) i ≡ some x → at (booked (es ++ (e ∷ [])) cpu memory .objects .budgets) i ≡ some y
@@ -439,7 +450,7 @@ module _ (cpu memory : ℕ) (a₀ a out out′ : List ℕ) (o : Opens cpu memory
       × ((y .start ≡ x .start → ⊥) → (x .start < y .start) × (y .taken-cpu + charged-to (noted es cpu memory .charges) i + x .carved-cpu
       ≡ charged-to (noted (es ++ (e ∷ [])) cpu memory .charges) i + y .carved-cpu))
   taken-and-noted e i x y u v =
-      let B = charges-noted cpu memory a₀ a out out′ o es h f e i x y u v in
+      let B = charges-noted cpu memory a₀ a out out′ o es h f e .taken i x y u v in
       let with-test : Bool → ℕ = λ b. cond b (x .taken-cpu) 0 + charged-to (noted (es ++ (e ∷ [])) cpu memory .charges) i + y .carved-cpu in (
         λ q. B .taken ∙ ap with-test (eq-eqb (y .start) (x .start) q),
         λ q. (above (x .start) (y .start) (B .later) q, B .taken ∙ ap with-test (ne-eqb (y .start) (x .start) q) ∙ omega arith),

@@ -134,7 +134,3 @@ only-12-renews (pays-for-anything i) n r h = refl
 only-12-renews (read-account i) n r h = refl
 only-12-renews (charge-of i) n r h = refl
 only-12-renews (read-totals i) n r h = refl
-
--- so question 1 leaves none
-pub one-renews-not : (c : Call) (r : Registry) → renewal-left c 1 r ≡ none
-one-renews-not c r = only-12-renews c 1 r refl

@@ -1,7 +1,7 @@
--- The ledger notes what the book takes: each call takes from a budget's CPU time what it notes as charged to that budget, and what it carves out of it, and nothing else.
--- Assumes nothing.
+-- The ledger notes what the book takes: each call takes from a budget's CPU time what it notes as charged to that budget, and what it carves out of it, and nothing else; and it
+-- strikes nothing out. Assumes nothing.
 use mathlib.Core.Path.{_≡_, refl, sym, _∙_, ap}
-use mathlib.Core.Bool.{Bool, true, false, cond, _&&_}
+use mathlib.Core.Bool.{Bool, true, false, cond}
 use mathlib.Core.Option.{Option, none, some}
 use mathlib.Core.List.{List, [], _∷_, _++_}
 use Prim.Native.Nat.{ℕ, _+_, _-_, _%_, _≤_, _<_}
@@ -16,8 +16,8 @@ use Rattle.carv_budget.specs.laws.Account.{first, second}
 use Rattle.carv_objects_spec.specs.Registry.{bytes-of}
 use Rattle.carv_objects_spec.specs.Book.{Book, Budget, Call, create, insert, create-budget, charge-more, uncharge, remove, refill, charge-cpu, pays-for-anything, read-account, charge-of, read-totals, object-of, budget-of, is-live, new-budget, due, renew, renew-if, take-cpu, carve, charge, credit, return, free, on-budget, remove-object, write, accepted, refused-12}
 use Rattle.carv_objects_spec.specs.Ledger as ledger
-use Rattle.carv_objects_spec.specs.Ledger.{Ledger, note}
-use Rattle.carv_objects_spec.specs.Noted.{charged-to, Booked, Accounted}
+use Rattle.carv_objects_spec.specs.Ledger.{Ledger, note-charge, note, clock}
+use Rattle.carv_objects_spec.specs.Noted.{Adds, charged-to, Booked, Accounted}
 
 -- a start that a renewal moves is a later one
 moved : (s t : ℕ) → s ≤ t → period ≤ t - s → s < t - (t - s) % period
@@ -71,8 +71,8 @@ nothing-booked x y c R = record { later = R .later; taken = omega (arith, R .tak
 
 -- Tables.
 
-pub altered : {A : Type 0} (m : List (Row A)) (j i : ℕ) (f : A → A) (x y : A) → at m i ≡ some x → at (alter j f m) i ≡ some y → cond (eqb j i) (f x) x ≡ y
-altered m j i f x y h k = test (eqb j i)
+pub altered-row : {A : Type 0} (m : List (Row A)) (j i : ℕ) (f : A → A) (x y : A) → at m i ≡ some x → at (alter j f m) i ≡ some y → cond (eqb j i) (f x) x ≡ y
+altered-row m j i f x y h k = test (eqb j i)
     (λ a. let e = eqb-true j i a in
     let z : at (alter j f m) i ≡ some (f x) = rw e (Table.at-alter m i f x h) in
     rw a (some-same (f x) y (sym z ∙ k)))
@@ -90,7 +90,7 @@ module _ (k : Book) (i : ℕ) (c : ℕ) where
   -- a change of a budget that carves and charges nothing
   changed : (j : ℕ) (f : Budget → Budget) (k′ : Book) → k′ .budgets ≡ alter j f (k .budgets) → ((x : Budget) → Renews x (f x)) → Accounted k k′ c c i
   changed j f k′ e R x y h g =
-      let z = altered (k .budgets) j i f x y h (ap (λ (m : List (Row Budget)). at m i) (sym e) ∙ g) in
+      let z = altered-row (k .budgets) j i f x y h (ap (λ (m : List (Row Budget)). at m i) (sym e) ∙ g) in
       rw (← z) (nothing-booked x (cond (eqb j i) (f x) x) c (test (eqb j i) (λ a. rw a (R x)) (λ a. rw a (renews-not x))))
 
   -- one that carves n out of a renewed budget, and charges m to it
@@ -98,7 +98,7 @@ module _ (k : Book) (i : ℕ) (c : ℕ) where
       → ((x : Budget) → f x .start ≡ renew t x .start) → ((x : Budget) → f x .taken-cpu ≡ renew t x .taken-cpu + n + m) → ((x : Budget) → f x .carved-cpu ≡ x .carved-cpu + n)
       → Accounted k k′ c d i
   spent-of j t n m f k′ d e q s u v x y h g =
-      let z = altered (k .budgets) j i f x y h (ap (λ (m : List (Row Budget)). at m i) (sym e) ∙ g) in
+      let z = altered-row (k .budgets) j i f x y h (ap (λ (m : List (Row Budget)). at m i) (sym e) ∙ g) in
       test (eqb j i)
       (λ a. let z′ : f x ≡ y = rw a at z in rw (← z′) (booked x (renew t x) (f x) n m c d (rw a at q) (renews t x) (s x) (u x) (v x)))
       (λ a. let z′ : x ≡ y = rw a at z in let q′ : d ≡ 0 + c = rw a at q in rw (← z′) (booked x x x 0 0 c d q′ (renews-not x) refl (omega arith) (omega arith)))
@@ -181,3 +181,29 @@ pub call-noted : (c : Call) (n : ℕ) (k : Book) (l : Ledger) (i : ℕ) → Risi
 call-noted c n k l i up = test (eqb n 0)
     (λ a. rw a (accepted-noted c k l i up))
     (λ a. rw a (test (eqb n 12) (λ b. rw b (refused-noted c k i (charged-to (l .charges) i))) (λ b. rw b (unmoved k i (charged-to (l .charges) i)))))
+
+-- Nothing is struck out.
+
+pub adds-nothing : (time : Option ℕ) (l : Ledger) → Adds time l l
+adds-nothing time l = record { carved = []; budgets = refl; charged = []; charges = refl; timed = tt }
+
+pub adds-charge : (i ns time : ℕ) (l : Ledger) → Adds (some time) l (note-charge i ns time l)
+adds-charge i ns time l = record { carved = []; budgets = refl; charged = record { budget = i; ns = ns; time = time } ∷ []; charges = refl; timed = (refl, tt) }
+
+accepted-adds : (c : Call) (next : ℕ) (l : Ledger) → Adds (clock c) l (ledger.accepted c next l)
+accepted-adds (create kind payer backing) next l = adds-nothing none l
+accepted-adds (insert kind payer bytes) next l = adds-nothing none l
+accepted-adds (create-budget parent cpu memory time) next l =
+    record { carved = record { id = next; it = record { parent = parent; allowance = cpu } } ∷ []; budgets = refl; charged = []; charges = refl; timed = tt }
+accepted-adds (charge-more i bytes) next l = adds-nothing none l
+accepted-adds (uncharge i bytes) next l = adds-nothing none l
+accepted-adds (remove i time) next l = adds-nothing (some time) l
+accepted-adds (refill i time) next l = adds-nothing (some time) l
+accepted-adds (charge-cpu i ns time) next l = adds-charge i ns time l
+accepted-adds (pays-for-anything i) next l = adds-nothing none l
+accepted-adds (read-account i) next l = adds-nothing none l
+accepted-adds (charge-of i) next l = adds-nothing none l
+accepted-adds (read-totals i) next l = adds-nothing none l
+
+pub note-adds : (c : Call) (n next : ℕ) (l : Ledger) → Adds (clock c) l (note c n next l)
+note-adds c n next l = test (eqb n 0) (λ a. rw a (accepted-adds c next l)) (λ a. rw a (adds-nothing (clock c) l))

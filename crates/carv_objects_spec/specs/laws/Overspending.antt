@@ -1,13 +1,11 @@
 -- P3 for the registry's calls: each keeps the invariant of Spending.antt. Assumes nothing.
 use mathlib.Core.Path.{_≡_, refl, sym, _∙_, ap, subst}
-use mathlib.Core.Bool.{Bool, true, false, not}
+use mathlib.Core.Bool.{Bool, true, false}
 use mathlib.Core.Option.{some}
-use mathlib.Core.List.{List, [], _∷_}
 use Prim.Native.Nat.{ℕ, _+_, _-_, _*_, _/_, _≤_, min}
 use native.Mathlib.Omega.{arith}
 use native.Mathlib.Nat.{sub-zero}
 use lib.Dec.{eqb}
-use borrow.Author.Tests.{eqb-true, ne-eqb}
 use Rattle.carv_area.specs.laws.Table
 use Rattle.carv_area.specs.Table.{at}
 use Rattle.carv_area.specs.laws.Table.{test}
@@ -144,45 +142,45 @@ remove-balanced r l i t e y s O not-root W =
 
 -- Each call.
 
--- what a call leaves, with what the ledger notes of it
-abbrev Noted : Call → Registry → Ledger → (t : ℕ) → RegistryReply → Type 0
-Noted c r l t a = Balanced (a .after) (note c (a .number) (r .next) l) t
+-- what a call leaves is balanced with what the ledger notes of it
+abbrev StaysBalanced : Call → Registry → Ledger → (t : ℕ) → RegistryReply → Type 0
+StaysBalanced c r l t a = Balanced (a .after) (note c (a .number) (r .next) l) t
 
 module _ (r : Registry) (s : Sound r) (l : Ledger) (t : ℕ) (W : Balanced r l t) where
-  insert-balanced : (kind payer n : ℕ) → Noted (insert kind payer n) r l t (run (insert kind payer n) r)
+  insert-balanced : (kind payer n : ℕ) → StaysBalanced (insert kind payer n) r l t (run (insert kind payer n) r)
   insert-balanced kind payer n =
-      calls.insert-cases (Noted (insert kind payer n) r l t) kind payer n r (λ q h. rw h W) λ e B code other room covers. plain-balanced r l kind payer n t e s B W
+      calls.insert-cases (StaysBalanced (insert kind payer n) r l t) kind payer n r (λ q h. rw h W) λ e B code other room covers. plain-balanced r l kind payer n t e s B W
 
-  create-balanced : (kind payer : ℕ) (backing : Bool) → Noted (create kind payer backing) r l t (run (create kind payer backing) r)
+  create-balanced : (kind payer : ℕ) (backing : Bool) → StaysBalanced (create kind payer backing) r l t (run (create kind payer backing) r)
   create-balanced kind payer backing =
-      calls.create-cases (Noted (create kind payer backing) r l t) kind payer backing r (λ q h. rw h W)
+      calls.create-cases (StaysBalanced (create kind payer backing) r l t) kind payer backing r (λ q h. rw h W)
       λ e B code other room covers. plain-balanced r l kind payer (bytes-of kind) t e s B W
 
-  create-budget-balanced : (parent cpu memory : ℕ) → Noted (create-budget parent cpu memory t) r l t (run (create-budget parent cpu memory t) r)
+  create-budget-balanced : (parent cpu memory : ℕ) → StaysBalanced (create-budget parent cpu memory t) r l t (run (create-budget parent cpu memory t) r)
   create-budget-balanced parent cpu memory =
-      calls.create-budget-cases (Noted (create-budget parent cpu memory t) r l t) parent cpu memory t r (λ q h k. rw h W) (λ e B poor. W)
+      calls.create-budget-cases (StaysBalanced (create-budget parent cpu memory t) r l t) parent cpu memory t r (λ q h k. rw h W) (λ e B poor. W)
       (λ e B rich. renew-balanced r s l parent t e B W) λ e B room C. carve-balanced r l parent cpu memory t e s B C W
 
-  charge-more-balanced : (i n : ℕ) → Noted (charge-more i n) r l t (run (charge-more i n) r)
+  charge-more-balanced : (i n : ℕ) → StaysBalanced (charge-more i n) r l t (run (charge-more i n) r)
   charge-more-balanced i n =
-      calls.charge-more-cases (Noted (charge-more i n) r l t) i n r s (λ q h. rw h W)
+      calls.charge-more-cases (StaysBalanced (charge-more i n) r l t) i n r s (λ q h. rw h W)
       λ e y O covers. object-balanced r l i t e y (λ a. a .«memory_used» + n) (λ c. c + n) O W
 
-  uncharge-balanced : (i n : ℕ) → Noted (uncharge i n) r l t (run (uncharge i n) r)
+  uncharge-balanced : (i n : ℕ) → StaysBalanced (uncharge i n) r l t (run (uncharge i n) r)
   uncharge-balanced i n =
-      calls.uncharge-cases (Noted (uncharge i n) r l t) i n r s (λ q h. rw h W)
+      calls.uncharge-cases (StaysBalanced (uncharge i n) r l t) i n r s (λ q h. rw h W)
       λ e y O covers. object-balanced r l i t e y (λ a. a .«memory_used» - n) (λ c. c - n) O W
 
-  removal-balanced : (i : ℕ) → Noted (remove i t) r l t (run (remove i t) r)
+  removal-balanced : (i : ℕ) → StaysBalanced (remove i t) r l t (run (remove i t) r)
   removal-balanced i =
-      calls.remove-cases (Noted (remove i t) r l t) i t r s (λ q h. rw h W) λ e y O not-root u. remove-balanced r l i t e y s O not-root W
+      calls.remove-cases (StaysBalanced (remove i t) r l t) i t r s (λ q h. rw h W) λ e y O not-root u. remove-balanced r l i t e y s O not-root W
 
-  refill-balanced : (i : ℕ) → Noted (refill i t) r l t (run (refill i t) r)
-  refill-balanced i = calls.refill-cases (Noted (refill i t) r l t) i t r (λ q h. rw h W) λ e B. renew-balanced r s l i t e B W
+  refill-balanced : (i : ℕ) → StaysBalanced (refill i t) r l t (run (refill i t) r)
+  refill-balanced i = calls.refill-cases (StaysBalanced (refill i t) r l t) i t r (λ q h. rw h W) λ e B. renew-balanced r s l i t e B W
 
-  charge-cpu-balanced : (i ns : ℕ) → Noted (charge-cpu i ns t) r l t (run (charge-cpu i ns t) r)
+  charge-cpu-balanced : (i ns : ℕ) → StaysBalanced (charge-cpu i ns t) r l t (run (charge-cpu i ns t) r)
   charge-cpu-balanced i ns =
-      calls.charge-cpu-cases (Noted (charge-cpu i ns t) r l t) i ns t r (λ q h k. rw h W) (λ e B. renew-balanced r s l i t e B W)
+      calls.charge-cpu-cases (StaysBalanced (charge-cpu i ns t) r l t) i ns t r (λ q h k. rw h W) (λ e B. renew-balanced r s l i t e B W)
       λ e B covers. spend-balanced r s l i t e B W (λ a. ns) covers
 
 -- every call, on a clock that does not fall
@@ -197,9 +195,9 @@ call-balanced (remove i t) r l T s h W = removal-balanced r s l t (clock-step r 
 call-balanced (refill i t) r l T s h W = refill-balanced r s l t (clock-step r l T t h W) i
 call-balanced (charge-cpu i ns t) r l T s h W = charge-cpu-balanced r s l t (clock-step r l T t h W) i ns
 call-balanced (pays-for-anything i) r l T s h W = W
-call-balanced (read-account i) r l T s h W = asked (Noted (read-account i) r l T) (is-budget r i) W (λ k. W)
-call-balanced (charge-of i) r l T s h W = asked (Noted (charge-of i) r l T) (has r i) W (λ k. W)
-call-balanced (read-totals i) r l T s h W = asked (Noted (read-totals i) r l T) (is-budget r i) W (λ k. W)
+call-balanced (read-account i) r l T s h W = asked (StaysBalanced (read-account i) r l T) (is-budget r i) W (λ k. W)
+call-balanced (charge-of i) r l T s h W = asked (StaysBalanced (charge-of i) r l T) (has r i) W (λ k. W)
+call-balanced (read-totals i) r l T s h W = asked (StaysBalanced (read-totals i) r l T) (is-budget r i) W (λ k. W)
 
 -- a tick's charge
 pub charge-most-balanced : (r : Registry) (l : Ledger) (i ns t : ℕ) → Sound r → is-budget r i ≡ true → Balanced r l t

@@ -262,7 +262,7 @@ clock-step r l T t h W = record {
     above : (x y : ℕ) → x ≤ y → (x ≡ y → ⊥) → x < y
     above x y h d = omega arith
 
--- Four steps that keep it: an entry changes, an entry is added, an entry goes, and CPU time is charged.
+-- Five steps that keep it: an entry changes, an entry is added, the ledger gains it, an entry goes, and CPU time is charged.
 
 -- a change of an entry that keeps its kind, payer and allowance
 pub record KeepsShare (g : Entry → Entry) : Type 0 where

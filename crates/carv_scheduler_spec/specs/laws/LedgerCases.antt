@@ -1,13 +1,12 @@
 -- P3's cases on a board: a history that spends exactly the allowance, histories that overspend because their clock falls, each by another call, what ticks charge, and which calls
 -- have a clock value. The definitions satisfy these together. Assumes nothing.
 use mathlib.Core.Path.{_≡_, refl}
-use mathlib.Core.Bool.{Bool, true, false, _||_}
-use mathlib.Core.Option.{Option, none, some}
+use mathlib.Core.Bool.{true}
+use mathlib.Core.Option.{none, some}
 use mathlib.Core.List.{List, [], _∷_, _++_, map}
 use Prim.Native.Nat.{ℕ}
 use native.Mathlib.Omega.{arith}
 use Rattle.carv_budget.specs.Account.{due, renew}
-use Rattle.carv_objects_spec.specs.Registry.{account-of}
 use Rattle.carv_objects_spec.specs.Book.{create-budget, charge-cpu, remove, refill, read-account}
 use Rattle.carv_objects_spec.specs.Ledger.{Ledger, spent}
 use Rattle.carv_scheduler_spec.specs.Scheduler.{fresh-context, results, opening}
@@ -44,8 +43,14 @@ running =
     on-objects (create-budget 1 4_000_000 8_192 0) ∷ on-objects (create-budget 2 500_000 0 0) ∷ create-user-thread 7 2 true ∷ create-user-thread 8 3 true
     ∷ start 7 20 30 40 fresh-context ∷ start 8 20 30 40 fresh-context ∷ kill 0 1 ∷ plan 0 ∷ []
 
+-- thread 7 runs on the root's budget: 10 ms in period 1, a tick ahead, and what that leaves
+abbrev ticked-ahead : List Call
+ticked-ahead =
+    create-user-thread 7 1 true ∷ start 7 20 30 40 fresh-context ∷ kill 0 1 ∷ plan 0 ∷ on-objects (charge-cpu 1 10_000_000 10_000_000) ∷ tick 30
+    ∷ on-objects (charge-cpu 1 9_000_000 12_000_000) ∷ []
+
 pub record BoardLedgerCases : Type 0 where
-  -- the bound is reached: removed at its time, the root is renewed first, 6 ms are left to it, and period 1 has the root's 10 ms and the removed budget's 4, and not a ns more
+  -- the bound is reached: removed at its time, the root is renewed first, 6 ms are left to it, and period 1 has 10 ms, the removed budget's 4 among them, and not a ns more
   pub exactly : (refusals (removed 10_000_000 6_000_000) ≡ 0 ∷ 0 ∷ 0 ∷ 0 ∷ []) × (spent (ledger (removed 10_000_000 6_000_000)) 1 1 ≡ 10_000_000)
       × (spent (ledger (removed 10_000_000 6_000_000)) 1 2 ≡ 4_000_000)
   pub not-more : refusals (removed 10_000_000 6_000_001) ≡ 0 ∷ 0 ∷ 0 ∷ 12 ∷ []
@@ -57,7 +62,8 @@ pub record BoardLedgerCases : Type 0 where
   -- the hypothesis is needed: with a removal's clock that falls, as without P2, the same 4 ms run twice
   pub removal-falls : (refusals (removed 0 10_000_000) ≡ 0 ∷ 0 ∷ 0 ∷ 0 ∷ []) × (spent (ledger (removed 0 10_000_000)) 1 1 ≡ 14_000_000)
       × (MovingClockNeverFalls (numbered (removed 0 10_000_000)) → ⊥)
-  -- with a renewal, a carve-out, a CPU charge or a planning whose time lies ahead, and a charge behind it, 10 ms run twice: of a charge refused with 12 too
+  -- with a renewal, a carve-out, a CPU charge, a planning or a tick whose time lies ahead, and a charge behind it, 10 ms run twice, less what the tick takes; so too if the carve-out
+  -- or the charge is refused with 12
   pub renewal-ahead : (refusals (again (on-objects (refill 1 30_000_000))) ≡ 0 ∷ 0 ∷ 0 ∷ []) × (spent (ledger (again (on-objects (refill 1 30_000_000)))) 1 1 ≡ 20_000_000)
       × (MovingClockNeverFalls (numbered (again (on-objects (refill 1 30_000_000)))) → ⊥)
   pub carve-out-ahead : (refusals (again (on-objects (create-budget 1 0 0 30_000_000))) ≡ 0 ∷ 0 ∷ 0 ∷ []) × (spent (ledger (again (on-objects (create-budget 1 0 0 30_000_000)))) 1 1 ≡ 20_000_000)
@@ -66,6 +72,10 @@ pub record BoardLedgerCases : Type 0 where
       × (MovingClockNeverFalls (numbered (again (on-objects (charge-cpu 1 0 30_000_000)))) → ⊥)
   pub refused-ahead : (refusals (again (on-objects (charge-cpu 1 10_000_001 30_000_000))) ≡ 0 ∷ 12 ∷ 0 ∷ []) × (spent (ledger (again (on-objects (charge-cpu 1 10_000_001 30_000_000)))) 1 1 ≡ 20_000_000)
       × (MovingClockNeverFalls (numbered (again (on-objects (charge-cpu 1 10_000_001 30_000_000)))) → ⊥)
+  pub refused-carve-out-ahead : (refusals (again (on-objects (create-budget 1 10_000_001 0 30_000_000))) ≡ 0 ∷ 12 ∷ 0 ∷ [])
+      × (spent (ledger (again (on-objects (create-budget 1 10_000_001 0 30_000_000)))) 1 1 ≡ 20_000_000)
+      × (MovingClockNeverFalls (numbered (again (on-objects (create-budget 1 10_000_001 0 30_000_000)))) → ⊥)
+  pub tick-ahead : (refusals ticked-ahead ≡ 0 ∷ 0 ∷ 0 ∷ 0 ∷ 0 ∷ 0 ∷ 0 ∷ []) × (spent (ledger ticked-ahead) 1 1 ≡ 19_000_000) × (MovingClockNeverFalls (numbered ticked-ahead) → ⊥)
   pub planning-ahead : (refusals (threaded (plan 30)) ≡ 0 ∷ 0 ∷ 0 ∷ 0 ∷ 0 ∷ []) × (spent (ledger (threaded (plan 30))) 1 1 ≡ 20_000_000) × (MovingClockNeverFalls (numbered (threaded (plan 30))) → ⊥)
   -- a call refused otherwise may carry any time: the clock of the others doesn't fall, 02's does, and the ledger is that without it
   pub refused-otherwise : (refusals (again (on-objects (refill 9 30_000_000))) ≡ 0 ∷ 7 ∷ 12 ∷ []) × MovingClockNeverFalls (numbered (again (on-objects (refill 9 30_000_000))))
@@ -75,7 +85,9 @@ pub record BoardLedgerCases : Type 0 where
   pub ticks : (spent (ledger running) 0 1 ≡ 0) × (spent (ledger (running ++ (tick 1 ∷ []))) 0 2 ≡ 1_000_000) × (spent (ledger (running ++ (tick 1 ∷ plan 1 ∷ []))) 0 1 ≡ 1_000_000)
   pub less-left : (spent (ledger (running ++ (tick 1 ∷ plan 1 ∷ tick 2 ∷ []))) 0 3 ≡ 500_000) × (spent (ledger (running ++ (tick 1 ∷ plan 1 ∷ tick 2 ∷ []))) 0 2 ≡ 1_500_000)
       × (spent (ledger (running ++ (tick 1 ∷ plan 1 ∷ tick 2 ∷ []))) 0 1 ≡ 1_500_000)
-  -- a tick at a period's start is in that period, with the budget renewed
+  -- a tick before a period's end is in that period; one at its start is in the next, with the budget renewed though it had nothing left
+  pub same-period : (spent (ledger (running ++ (tick 9 ∷ []))) 0 2 ≡ 1_000_000) × (spent (ledger (running ++ (tick 9 ∷ []))) 1 2 ≡ 0)
+  pub renewed : spent (ledger (running ++ (on-objects (charge-cpu 2 3_500_000 9_999_999) ∷ tick 10 ∷ []))) 1 2 ≡ 1_000_000
   pub next-period : (spent (ledger (running ++ (tick 10 ∷ []))) 0 2 ≡ 0) × (spent (ledger (running ++ (tick 10 ∷ []))) 1 2 ≡ 1_000_000)
   -- a current thread that is blocked or killed is charged still; one whose budget is gone, or that has none, is not, nor by a tick that is refused
   pub stopped : (spent (ledger (running ++ (block-current 4 9 ∷ tick 1 ∷ []))) 0 2 ≡ 1_000_000) × (spent (ledger (running ++ (kill 7 1 ∷ tick 1 ∷ []))) 0 2 ≡ 1_000_000)
@@ -100,10 +112,14 @@ board-ledger-cases-hold = record {
   carve-out-ahead = (refl, refl, λ h. omega (arith, h .1 .1 .0));
   charge-ahead = (refl, refl, λ h. omega (arith, h .1 .1 .0));
   refused-ahead = (refl, refl, λ h. omega (arith, h .1 .1 .0));
+  refused-carve-out-ahead = (refl, refl, λ h. omega (arith, h .1 .1 .0));
+  tick-ahead = (refl, refl, λ h. omega (arith, h .1 .1 .1 .0));
   planning-ahead = (refl, refl, λ h. omega (arith, h .1 .1 .0));
   refused-otherwise = (refl, (omega arith, (omega arith, tt)), λ h. omega (arith, h .1 .1 .0), refl);
   ticks = (refl, refl, refl);
   less-left = (refl, refl, refl);
+  same-period = (refl, refl);
+  renewed = refl;
   next-period = (refl, refl);
   stopped = (refl, refl);
   gone = refl;

@@ -1,5 +1,5 @@
--- P3's ledger notes what 01's book takes, call by call, on a board: a tick's charge and a planning's renewals too. Assumes nothing.
-use mathlib.Core.Path.{_≡_, refl, sym, _∙_, ap, subst}
+-- P3's ledger notes what 01's book takes, call by call, on a board, a tick's charge and a planning's renewals too; and strikes nothing out. Assumes nothing.
+use mathlib.Core.Path.{_≡_, refl, _∙_, ap}
 use mathlib.Core.Bool.{Bool, true, false, cond}
 use mathlib.Core.Option.{Option, none, some}
 use mathlib.Core.List.{List, [], _∷_}
@@ -14,15 +14,14 @@ use Rattle.carv_budget.specs.Account.{period}
 use Rattle.carv_objects_spec.specs.Book as objects
 use Rattle.carv_objects_spec.specs.Book.{Budget, is-live, budget-of, cpu-left, renew, take-cpu, on-budget}
 use Rattle.carv_objects_spec.specs.Ledger.{Ledger}
-use Rattle.carv_objects_spec.specs.Noted.{charged-to, Booked, Accounted}
+use Rattle.carv_objects_spec.specs.Noted.{Adds, charged-to, Accounted}
 use Rattle.carv_objects_spec.specs.laws.Noted as registry-noted
-use Rattle.carv_objects_spec.specs.laws.Noted.{Renews, renews, renews-not, renews-again, nothing-booked, booked, altered, unmoved}
+use Rattle.carv_objects_spec.specs.laws.Noted.{Renews, renews, renews-not, renews-again, nothing-booked, booked, altered-row, unmoved, adds-nothing, adds-charge}
 use Rattle.carv_scheduler_spec.specs.Scheduler.{tick-ns, opening}
 use Rattle.carv_scheduler_spec.specs.Book as book
 use Rattle.carv_scheduler_spec.specs.Book.{Book, Call, on-objects, create-user-thread, start, block-current, wake, is-blocked-on, kill, tick, plan, read-thread, read-current, read-switches, exit-of, write, thread}
-use Rattle.carv_scheduler_spec.specs.Runs.{run, book-after, AllFit}
-use Rattle.carv_scheduler_spec.specs.Ledger.{note-tick, note, ledger-after}
-use Rattle.carv_scheduler_spec.specs.Demand3.{board-after}
+use Rattle.carv_scheduler_spec.specs.Runs.{book-after, AllFit}
+use Rattle.carv_scheduler_spec.specs.Ledger.{note-tick, note, ledger-after, clock}
 use Rattle.carv_scheduler_spec.specs.laws.History.{after-stands, opening-stands}
 
 -- waking moves nothing among the objects
@@ -41,7 +40,7 @@ tick-noted time (some j) k l i = test (is-live k j) (λ a. rw a charged) (λ a. 
 
     charged : Accounted k (on-budget j f k) (charged-to (l .charges) i) (cond (eqb j i) (min tick-ns (cpu-left (renew time (budget-of k j)))) 0 + charged-to (l .charges) i) i
     charged x y h g =
-        let z = altered (k .budgets) j i f x y h g in
+        let z = altered-row (k .budgets) j i f x y h g in
         test (eqb j i)
         (λ a. let z′ : f x ≡ y = rw a at z in
         let here : budget-of k j ≡ x = ap (budget-of k) (eqb-true j i a) ∙ ap objects.or-no-budget h in
@@ -114,3 +113,26 @@ pub next-noted : (cs : List Call) (c : Call) (n cpu memory : ℕ) → cpu ≤ pe
 next-noted cs c n cpu memory h fits i =
     call-noted n (book-after cs cpu memory) (ledger-after cs cpu memory) i
     (after-stands cs (opening cpu memory) (book.opening cpu memory) fits (opening-stands cpu memory h) .follows .objects .budgets-rising) c
+
+-- Nothing is struck out.
+
+tick-adds : (time : ℕ) (p : Option ℕ) (k : objects.Book) (l : Ledger) → Adds (some time) l (note-tick time p k l)
+tick-adds time none k l = adds-nothing (some time) l
+tick-adds time (some i) k l =
+    test (is-live k i) (λ a. rw a (adds-charge i (min tick-ns (cpu-left (renew time (budget-of k i)))) time l)) (λ a. rw a (adds-nothing (some time) l))
+
+pub note-adds : (c : Call) (n : ℕ) (k : Book) (l : Ledger) → Adds (clock c) l (note c n k l)
+note-adds (on-objects c) n k l = registry-noted.note-adds c n (k .objects .next) l
+note-adds (create-user-thread i budget stack) n k l = adds-nothing none l
+note-adds (start i space cspace root context) n k l = adds-nothing none l
+note-adds (block-current kind number) n k l = adds-nothing none l
+note-adds (wake i r) n k l = adds-nothing none l
+note-adds (is-blocked-on i kind number) n k l = adds-nothing none l
+note-adds (kill i cause) n k l = adds-nothing none l
+note-adds (tick t) n k l =
+    test (eqb n 0) (λ a. rw a (tick-adds (t * tick-ns) (thread (k .threads) (k .current) .budget) (k .objects) l)) (λ a. rw a (adds-nothing (some (t * tick-ns)) l))
+note-adds (plan t) n k l = adds-nothing (some (t * tick-ns)) l
+note-adds (read-thread i) n k l = adds-nothing none l
+note-adds read-current n k l = adds-nothing none l
+note-adds read-switches n k l = adds-nothing none l
+note-adds (exit-of i) n k l = adds-nothing none l

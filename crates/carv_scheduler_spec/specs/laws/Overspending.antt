@@ -15,8 +15,7 @@ use Rattle.carv_budget.specs.Account as account
 use Rattle.carv_budget.specs.Account.{period}
 use Rattle.carv_objects_spec.specs.laws.Asked.{asked}
 use Rattle.carv_objects_spec.specs.declared.Entry.{Entry}
-use Rattle.carv_objects_spec.specs.Registry.{Registry, is-budget, payer-of, account-of}
-use Rattle.carv_objects_spec.specs.Within.{within}
+use Rattle.carv_objects_spec.specs.Registry.{Registry, is-budget, account-of}
 use Rattle.carv_objects_spec.specs.Book as objects
 use Rattle.carv_objects_spec.specs.laws.History as registry-history
 use Rattle.carv_objects_spec.specs.laws.SoundFacts as registry-facts
@@ -43,10 +42,11 @@ use Rattle.carv_scheduler_spec.specs.laws.History.{Stands, kept, write-f
 use Rattle.carv_scheduler_spec.specs.Demand3.{board-after}
 use Rattle.carv_scheduler_spec.specs.Ledger.{note-tick, note, note-all, ledger-after, clock, moving-clock, ClockNeverFalls, MovingClockNeverFalls, EverLive}
 use Rattle.carv_scheduler_spec.specs.laws.Demand1.{stays-unless-12}
+use Rattle.carv_scheduler_spec.specs.laws.Noted.{note-adds}
 
--- what a call leaves of the registry
-abbrev Leaves : Ledger → (t : ℕ) → BoardReply → Type 0
-Leaves l t a = InOrder (a .after .registry) l t
+-- the registry that a call leaves is in order with the ledger
+abbrev StaysInOrder : Ledger → (t : ℕ) → BoardReply → Type 0
+StaysInOrder l t a = InOrder (a .after .registry) l t
 
 -- A tick.
 
@@ -107,7 +107,7 @@ plan-in-order : (n : ℕ) (b : Board) (l : Ledger) (T : ℕ) → Sound b → T �
 plan-in-order n b l T s h O =
     let time = n * tick-ns in
     let O′ = spending.clock-in-order (b .registry) l T time h O in
-    asked (Leaves l time) (scheduler.tick-fits n) O′ λ fits.
+    asked (StaysInOrder l time) (scheduler.tick-fits n) O′ λ fits.
     choose-in-order time (scheduler.put-back b .threads) (scheduler.put-back b .queue) (scheduler.put-back b .registry) l
     (subst registry-facts.Sound (sym (put-back-left b)) (s .registry)) (subst (λ (r : Registry). InOrder r l time) (sym (put-back-left b)) O′)
 
@@ -115,27 +115,27 @@ pub call-in-order : (c : Call) (b : Board) (k : Book) (l : Ledger) (T : ℕ) →
     → InOrder (run c b .after .registry) (note c (run c b .number) k l) (after-clock T (clock c))
 call-in-order (on-objects c) b k l T s F h O = rw (← F .objects .next) (spending.call-in-order c (b .registry) l T (s .registry) h O)
 call-in-order (create-user-thread i budget stack) b k l T s F h O =
-    asked (Leaves l T) (not (has (b .threads) i)) O λ h.
-    asked (Leaves l T) (not (eqb i 0)) O λ n.
-    asked (Leaves l T) (not (eqb i idle)) O λ k.
-    asked (Leaves l T) (ltb (length (b .threads)) 128) O λ room.
-    asked (Leaves l T) stack O λ backing. O
+    asked (StaysInOrder l T) (not (has (b .threads) i)) O λ h.
+    asked (StaysInOrder l T) (not (eqb i 0)) O λ n.
+    asked (StaysInOrder l T) (not (eqb i idle)) O λ k.
+    asked (StaysInOrder l T) (ltb (length (b .threads)) 128) O λ room.
+    asked (StaysInOrder l T) stack O λ backing. O
 call-in-order (start i space cspace root context) b k l T s F h O =
-    asked (Leaves l T) (has (b .threads) i) O λ h.
-    asked (Leaves l T) (is inactive (thread (b .threads) i)) O λ k. O
+    asked (StaysInOrder l T) (has (b .threads) i) O λ h.
+    asked (StaysInOrder l T) (is inactive (thread (b .threads) i)) O λ k. O
 call-in-order (block-current kind number) b k l T s F h O =
-    asked (Leaves l T) (scheduler.wait-listed kind) O λ h.
-    asked (Leaves l T) (is running (thread (b .threads) (b .current))) O λ k.
-    asked (Leaves l T) (not (eqb (b .current) idle)) O λ n. O
+    asked (StaysInOrder l T) (scheduler.wait-listed kind) O λ h.
+    asked (StaysInOrder l T) (is running (thread (b .threads) (b .current))) O λ k.
+    asked (StaysInOrder l T) (not (eqb (b .current) idle)) O λ n. O
 call-in-order (wake i r) b k l T s F h O = rw (wake-left i r b) O
-call-in-order (is-blocked-on i kind number) b k l T s F h O = asked (Leaves l T) (scheduler.wait-listed kind) O λ h. O
+call-in-order (is-blocked-on i kind number) b k l T s F h O = asked (StaysInOrder l T) (scheduler.wait-listed kind) O λ h. O
 call-in-order (kill i cause) b k l T s F h O =
-    asked (Leaves l T) (scheduler.cause-listed cause) O λ h.
-    asked (Leaves l T) (not (eqb i idle)) O λ k.
-    asked (Leaves l T) (has (b .threads) i) O λ n. O
+    asked (StaysInOrder l T) (scheduler.cause-listed cause) O λ h.
+    asked (StaysInOrder l T) (not (eqb i idle)) O λ k.
+    asked (StaysInOrder l T) (has (b .threads) i) O λ n. O
 call-in-order (tick n) b k l T s F h O = tick-in-order n b k l T s F h O
 call-in-order (plan n) b k l T s F h O = plan-in-order n b l T s h O
-call-in-order (read-thread i) b k l T s F h O = asked (Leaves l T) (has (b .threads) i) O λ h. O
+call-in-order (read-thread i) b k l T s F h O = asked (StaysInOrder l T) (has (b .threads) i) O λ h. O
 call-in-order read-current b k l T s F h O = O
 call-in-order read-switches b k l T s F h O = O
 call-in-order (exit-of i) b k l T s F h O = O
@@ -199,39 +199,12 @@ both-extend : (l m n : List (Row Carved)) → Extends l m → Extends m n → Ex
 both-extend l m _ e as-it-was = e
 both-extend l m _ e (one-more x n f) = one-more x n (both-extend l m n e f)
 
-accepted-extends : (c : objects.Call) (next : ℕ) (l : Ledger) → Extends (l .budgets) (objects-ledger.accepted c next l .budgets)
-accepted-extends (objects.create kind payer backing) next l = as-it-was
-accepted-extends (objects.insert kind payer bytes) next l = as-it-was
-accepted-extends (objects.create-budget parent cpu memory time) next l = one-more (record { id = next; it = record { parent = parent; allowance = cpu } }) (l .budgets) as-it-was
-accepted-extends (objects.charge-more i bytes) next l = as-it-was
-accepted-extends (objects.uncharge i bytes) next l = as-it-was
-accepted-extends (objects.remove i time) next l = as-it-was
-accepted-extends (objects.refill i time) next l = as-it-was
-accepted-extends (objects.charge-cpu i ns time) next l = as-it-was
-accepted-extends (objects.pays-for-anything i) next l = as-it-was
-accepted-extends (objects.read-account i) next l = as-it-was
-accepted-extends (objects.charge-of i) next l = as-it-was
-accepted-extends (objects.read-totals i) next l = as-it-was
-
-tick-extends : (time : ℕ) (budget : Option ℕ) (k : objects.Book) (l : Ledger) → Extends (l .budgets) (note-tick time budget k l .budgets)
-tick-extends time none k l = as-it-was
-tick-extends time (some i) k l = test (objects.is-live k i) (λ a. rw a as-it-was) (λ a. rw a as-it-was)
+front-extends : (l m : List (Row Carved)) → Extends m (l ++ m)
+front-extends [] m = as-it-was
+front-extends (x ∷ l) m = one-more x (l ++ m) (front-extends l m)
 
 note-extends : (c : Call) (number : ℕ) (k : Book) (l : Ledger) → Extends (l .budgets) (note c number k l .budgets)
-note-extends (on-objects c) number k l = test (eqb number 0) (λ a. rw a (accepted-extends c (k .objects .next) l)) (λ a. rw a as-it-was)
-note-extends (create-user-thread i budget stack) number k l = as-it-was
-note-extends (start i space cspace root context) number k l = as-it-was
-note-extends (block-current kind n) number k l = as-it-was
-note-extends (wake i r) number k l = as-it-was
-note-extends (is-blocked-on i kind n) number k l = as-it-was
-note-extends (kill i cause) number k l = as-it-was
-note-extends (tick n) number k l =
-    test (eqb number 0) (λ a. rw a (tick-extends (n * tick-ns) (book.thread (k .threads) (k .current) .budget) (k .objects) l)) (λ a. rw a as-it-was)
-note-extends (plan n) number k l = as-it-was
-note-extends (read-thread i) number k l = as-it-was
-note-extends read-current number k l = as-it-was
-note-extends read-switches number k l = as-it-was
-note-extends (exit-of i) number k l = as-it-was
+note-extends c number k l = let A = note-adds c number k l in rw (A .budgets) (front-extends (A .carved) (l .budgets))
 
 all-extend : (ns : List Numbered) (k : Book) (l : Ledger) → Extends (l .budgets) (note-all ns k l .budgets)
 all-extend [] k l = as-it-was

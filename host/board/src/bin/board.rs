@@ -34,7 +34,7 @@ soak     random calls and damaged areas by turns, for a time or a count, with a 
          see board soak --help
 
 COUNT and SEED are numbers below 2^64; a seed fixes the calls. DEPTH is at most 8.
-Exit status: 0 if nothing differs, 1 if something does, 2 if called wrongly.
+Exit status: 0 if nothing differs, 1 if something does or is overspent, 2 if called wrongly.
 ";
 
 /// Longest short lists: 22 times as many with each call more.

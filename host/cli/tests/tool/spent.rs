@@ -91,10 +91,25 @@ fn refused_calls() {
     assert!(late.out.contains(expected), "{}", late.out);
 }
 
+/// A board that is opened later in the list has a ledger of its own, and the summary says so.
+#[test]
+fn a_second_opening() {
+    let first = story("0", "10_000_000");
+    let again = lines(&[OPEN, "charge_cpu root 5 0"]);
+    let count = first.lines().count() + 1;
+    let told = told(&(first.clone() + &again));
+    let expected =
+        format!("\n  from the opening at line {count} on:\n  no period of 10 ms overspent, ");
+    assert!(told.starts_with(&expected), "{told}");
+    let ran = carv(&["replay", "--silent", "--json"], &(first + &again));
+    let expected = format!("{{\"spent\":{{\"opened_line\":{count},\"overspent\":null,");
+    assert!(ran.out.starts_with(&expected), "{}", ran.out);
+}
+
 #[test]
 fn as_json() {
     let ran = carv(&["replay", "--silent", "--json"], &story("0", "10_000_000"));
-    let expected = "{\"spent\":{\"overspent\":{\"id\":1,\"spent_ns\":14000000,\"cpu_ns\":10000000,\"period_start_ns\":10000000},\"clock_fell\":{\"line\":5,\"from_ns\":10000000,\"to_ns\":0},\"any_clock_fell\":{\"line\":5,\"from_ns\":10000000,\"to_ns\":0},\"budgets\":[{\"id\":1,\"name\":\"root\",\"parent\":1,\"cpu_ns\":10000000,\"most_ns\":14000000,\"period_start_ns\":10000000},{\"id\":2,\"name\":\"bag printer\",\"parent\":1,\"cpu_ns\":4000000,\"most_ns\":4000000,\"period_start_ns\":10000000}]}}";
+    let expected = "{\"spent\":{\"opened_line\":1,\"overspent\":{\"id\":1,\"spent_ns\":14000000,\"cpu_ns\":10000000,\"period_start_ns\":10000000},\"clock_fell\":{\"line\":5,\"from_ns\":10000000,\"to_ns\":0},\"any_clock_fell\":{\"line\":5,\"from_ns\":10000000,\"to_ns\":0},\"budgets\":[{\"id\":1,\"name\":\"root\",\"parent\":1,\"cpu_ns\":10000000,\"most_ns\":14000000,\"period_start_ns\":10000000},{\"id\":2,\"name\":\"bag printer\",\"parent\":1,\"cpu_ns\":4000000,\"most_ns\":4000000,\"period_start_ns\":10000000}]}}";
     assert_eq!(ran.out.lines().next(), Some(expected));
     assert_eq!(ran.out.lines().count(), 2);
     assert_eq!(ran.status, 0, "what was spent changes no exit status");
