@@ -1,5 +1,6 @@
 -- P3, "No period overspent", over areas of bytes and the exported C functions: `NoPeriodOverspent` is the statement, `NoPeriodOverspentByClock` the same in document 02's own words, and
--- `ChargesNoted` says that what the ledger has as charged is what 01's book takes; laws/Overspending.antt proves them. Lists of calls, and what a call ensures, are those of Demands.antt. Assumes nothing.
+-- `ChargesNoted` says that what the ledger has as charged is what 01's book takes, that nothing is struck out of it, and that a charge bears its call's clock value; laws/Overspending.antt
+-- proves them. Lists of calls, and what a call ensures, are those of Demands.antt. Assumes nothing.
 use mathlib.Core.Path.{_≡_}
 use mathlib.Core.Bool.{true}
 use mathlib.Core.List.{List, [], _∷_, _++_}

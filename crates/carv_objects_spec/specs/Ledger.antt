@@ -96,17 +96,8 @@ clock (read-account i) = none
 clock (charge-of i) = none
 clock (read-totals i) = none
 
--- "clock values that never fall", after the last one: each, where a call has one, is at or after that before it
+-- "clock values that never fall", after the last one: each, where a call has one, is at or after that before it. laws/Clock.antt says it of any two of them
 abbrev pub NeverFall : (last : ℕ) → List (Option ℕ) → Type 0
 NeverFall last [] = Unit {0}
 NeverFall last (none ∷ ts) = NeverFall last ts
 NeverFall last (some time ∷ ts) = (last ≤ time) × NeverFall time ts
-
--- The same as a sentence: wherever t stands before u among the clock values, t is at most u. laws/Clock.antt has that `NeverFall` says this, no more and no less.
-pub data Among (t : ℕ) : List (Option ℕ) → Type 0 where
-  here : (ts : List (Option ℕ)) → Among t (some t ∷ ts)
-  behind : (o : Option ℕ) (ts : List (Option ℕ)) → Among t ts → Among t (o ∷ ts)
-
-pub data Before (t u : ℕ) : List (Option ℕ) → Type 0 where
-  first : (ts : List (Option ℕ)) → Among u ts → Before t u (some t ∷ ts)
-  later : (o : Option ℕ) (ts : List (Option ℕ)) → Before t u ts → Before t u (o ∷ ts)

@@ -10,7 +10,7 @@ use lib.Dec.{eqb, leb}
 use lib.ListN.{length, getD}
 use lib.Seq.{sets}
 use borrow.Author.Tests.{eqb-true, eq-eqb, ne-eqb}
-use Rattle.carv_area.specs.Table.{at}
+use Rattle.carv_area.specs.Table.{Row, at}
 use Rattle.carv_area.specs.laws.Table.{test}
 use Rattle.carv_budget.specs.Account.{due}
 use Rattle.carv_budget.specs.laws.Account.{first}
@@ -24,9 +24,10 @@ use Rattle.carv_objects_spec.specs.Book as objects
 use Rattle.carv_objects_spec.specs.Book.{Budget, Figures, budget-of, figures, is-live}
 use Rattle.carv_objects_spec.specs.BookTotals.{summed, totals-of}
 use Rattle.carv_objects_spec.specs.Within as objects-within
-use Rattle.carv_objects_spec.specs.Ledger.{Carved, Charge, under, spent, NeverFall, Before}
+use Rattle.carv_objects_spec.specs.Ledger.{Carved, Charge, under, spent, NeverFall}
 use Rattle.carv_objects_spec.specs.laws.Clock.{never-falls-shown}
-use Rattle.carv_objects_spec.specs.Noted.{Timed, charged-to}
+use Rattle.carv_objects_spec.specs.Noted.{charged-to}
+use Rattle.carv_objects_spec.specs.laws.Noted.{timed-each}
 use Rattle.carv_objects_spec.specs.Demand1 as objects-demand1
 use Rattle.carv_objects_spec.specs.laws.SoundLaws.{sound-shown}
 use Rattle.carv_objects_spec.specs.laws.Question15 as question-15
@@ -412,14 +413,14 @@ module _ (cpu memory : ℕ) (a₀ a out out′ : List ℕ) (o : Opens cpu memory
   -- "Take clock values that never fall over the whole history, and periods of 10 ms counted from time 0. In each, the CPU charged to a budget and to all below it, those removed
   -- meanwhile included, is at most that budget's allowance. This is to be shown for every budget in every history": for every budget that is live after the first calls of the
   -- history, front, however many these are
-  pub overspends-no-period : ((t u : ℕ) → Before t u (all-clocks es) → t ≤ u) → (front rest : List Made) → es ≡ front ++ rest
+  pub overspends-no-period : ((front mid rest : List (Option ℕ)) (t u : ℕ) → all-clocks es ≡ front ++ (some t ∷ (mid ++ (some u ∷ rest))) → t ≤ u) → (front rest : List Made) → es ≡ front ++ rest
       → (i : ℕ) → is-budget (decode (last front a) .registry) i ≡ true
       → (p : ℕ) → spent (ledger-from (told es) cpu memory) p i ≤ account-of (decode (last front a) .registry) i .«cpu_allowance»
   overspends-no-period rise front rest q i live =
       no-period-overspent-by-clock cpu memory a₀ a out out′ o es h f (subst (NeverFall 0) (map-told (λ (n : Numbered). clock (n .call)) es) (never-falls-shown (all-clocks es) rise))
       .live front rest q i live .allowed
 
-  module _ (rise : (t u : ℕ) → Before t u (moving-clocks es) → t ≤ u) where
+  module _ (rise : (front mid rest : List (Option ℕ)) (t u : ℕ) → moving-clocks es ≡ front ++ (some t ∷ (mid ++ (some u ∷ rest))) → t ≤ u) where
     within : WithinAllowances es a cpu memory
     within = no-period-overspent cpu memory a₀ a out out′ o es h f (subst (NeverFall 0) (map-told moving-clock es) (never-falls-shown (moving-clocks es) rise))
 
@@ -439,9 +440,13 @@ module _ (cpu memory : ℕ) (a₀ a out out′ : List ℕ) (o : Opens cpu memory
         × ((b : ℕ) → under (ledger-from (told es) cpu memory .budgets) b i ≡ objects-within.within (decode (last front a) .registry) b i)
     live-in-ledger front rest q i live = let E = within .live front rest q i live in (E .listed, E .below)
 
-  -- nothing is struck out of the ledger, and a charge is noted at its call's clock value
-  pub nothing-struck-out : (e : Made) → (xs : List Charge) × (ledger-from (told (es ++ (e ∷ []))) cpu memory .charges ≡ xs ++ ledger-from (told es) cpu memory .charges) × Timed (clock (e .call)) xs
-  nothing-struck-out e = let A = charges-noted cpu memory a₀ a out out′ o es h f e .adds in (A .charged, A .charges, A .timed)
+  -- nothing is struck out of the ledger, budgets and charges; and each charge that a call adds is noted at its clock value
+  pub nothing-struck-out : (e : Made) → ((bs : List (Row Carved)) × (ledger-from (told (es ++ (e ∷ []))) cpu memory .budgets ≡ bs ++ ledger-from (told es) cpu memory .budgets))
+      × ((xs : List Charge) × (ledger-from (told (es ++ (e ∷ []))) cpu memory .charges ≡ xs ++ ledger-from (told es) cpu memory .charges)
+      × ((front rest : List Charge) (x : Charge) → xs ≡ front ++ (x ∷ rest) → clock (e .call) ≡ some (x .time)))
+  nothing-struck-out e =
+      let A = charges-noted cpu memory a₀ a out out′ o es h f e .adds in
+      ((A .carved, A .budgets), (A .charged, A .charges, λ front rest x q. timed-each (clock (e .call)) (A .charged) front rest x (A .timed) q))
 
   -- what the ledger notes, the book takes: of a budget with the same start before and after a call, and of one that the call renewed
   pub taken-and-noted : (e : Made) (i : ℕ) (x y : Budget) → at (booked es cpu memory .objects .budgets) i ≡ some x → at (booked (es ++ (e ∷ [])) cpu memory .objects .budgets) i ≡ some y

@@ -1,6 +1,6 @@
 -- The ledger notes what the book takes: each call takes from a budget's CPU time what it notes as charged to that budget, and what it carves out of it, and nothing else; and it
 -- strikes nothing out. Assumes nothing.
-use mathlib.Core.Path.{_≡_, refl, sym, _∙_, ap}
+use mathlib.Core.Path.{_≡_, refl, sym, _∙_, ap, subst}
 use mathlib.Core.Bool.{Bool, true, false, cond}
 use mathlib.Core.Option.{Option, none, some}
 use mathlib.Core.List.{List, [], _∷_, _++_}
@@ -16,8 +16,8 @@ use Rattle.carv_budget.specs.laws.Account.{first, second}
 use Rattle.carv_objects_spec.specs.Registry.{bytes-of}
 use Rattle.carv_objects_spec.specs.Book.{Book, Budget, Call, create, insert, create-budget, charge-more, uncharge, remove, refill, charge-cpu, pays-for-anything, read-account, charge-of, read-totals, object-of, budget-of, is-live, new-budget, due, renew, renew-if, take-cpu, carve, charge, credit, return, free, on-budget, remove-object, write, accepted, refused-12}
 use Rattle.carv_objects_spec.specs.Ledger as ledger
-use Rattle.carv_objects_spec.specs.Ledger.{Ledger, note-charge, note, clock}
-use Rattle.carv_objects_spec.specs.Noted.{Adds, charged-to, Booked, Accounted}
+use Rattle.carv_objects_spec.specs.Ledger.{Charge, Ledger, note-charge, note, clock}
+use Rattle.carv_objects_spec.specs.Noted.{Timed, Adds, charged-to, Booked, Accounted}
 
 -- a start that a renewal moves is a later one
 moved : (s t : ℕ) → s ≤ t → period ≤ t - s → s < t - (t - s) % period
@@ -183,6 +183,14 @@ call-noted c n k l i up = test (eqb n 0)
     (λ a. rw a (test (eqb n 12) (λ b. rw b (refused-noted c k i (charged-to (l .charges) i))) (λ b. rw b (unmoved k i (charged-to (l .charges) i)))))
 
 -- Nothing is struck out.
+
+-- each of these charges is of this time
+pub timed-each : (time : Option ℕ) (xs front rest : List Charge) (x : Charge) → Timed time xs → xs ≡ front ++ (x ∷ rest) → time ≡ some (x .time)
+timed-each time xs front rest x T q = each front (subst (Timed time) q T)
+  where
+    each : (front : List Charge) → Timed time (front ++ (x ∷ rest)) → time ≡ some (x .time)
+    each [] T = T .0
+    each (y ∷ front) T = each front (T .1)
 
 pub adds-nothing : (time : Option ℕ) (l : Ledger) → Adds time l l
 adds-nothing time l = record { carved = []; budgets = refl; charged = []; charges = refl; timed = tt }
