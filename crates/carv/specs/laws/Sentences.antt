@@ -402,43 +402,37 @@ map-told : (g : Numbered → Option ℕ) (es : List Made) → map (λ (e : Made)
 map-told g [] = refl
 map-told g (e ∷ es) = ap (λ (l : List (Option ℕ)). g (record { call = e .call; number = e .returned }) ∷ l) (map-told g es)
 
--- the clock values of the calls es, and of those that are accepted or refused with 12
-abbrev all-clocks : List Made → List (Option ℕ)
-all-clocks es = map (λ (e : Made). clock (e .call)) es
-
-abbrev moving-clocks : List Made → List (Option ℕ)
-moving-clocks es = map (λ (e : Made). cond (eqb (e .returned) 0 || eqb (e .returned) 12) (clock (e .call)) none) es
-
 module _ (cpu memory : ℕ) (a₀ a out out′ : List ℕ) (o : Opens cpu memory a₀ out 0 a out′) (es : List Made) (h : Ran es a) (f : AllWords es) where
   -- "Take clock values that never fall over the whole history, and periods of 10 ms counted from time 0. In each, the CPU charged to a budget and to all below it, those removed
   -- meanwhile included, is at most that budget's allowance. This is to be shown for every budget in every history": for every budget that is live after the first calls of the
   -- history, front, however many these are
-  pub overspends-no-period : ((front mid rest : List (Option ℕ)) (t u : ℕ) → all-clocks es ≡ front ++ (some t ∷ (mid ++ (some u ∷ rest))) → t ≤ u) → (front rest : List Made) → es ≡ front ++ rest
+  pub overspends-no-period : ((front mid rest : List (Option ℕ)) (t u : ℕ) → map (λ (e : Made). clock (e .call)) es ≡ front ++ (some t ∷ (mid ++ (some u ∷ rest))) → t ≤ u) → (front rest : List Made) → es ≡ front ++ rest
       → (i : ℕ) → is-budget (decode (last front a) .registry) i ≡ true
       → (p : ℕ) → spent (ledger-from (told es) cpu memory) p i ≤ account-of (decode (last front a) .registry) i .«cpu_allowance»
   overspends-no-period rise front rest q i live =
-      no-period-overspent-by-clock cpu memory a₀ a out out′ o es h f (subst (NeverFall 0) (map-told (λ (n : Numbered). clock (n .call)) es) (never-falls-shown (all-clocks es) rise))
+      no-period-overspent-by-clock cpu memory a₀ a out out′ o es h f (subst (NeverFall 0) (map-told (λ (n : Numbered). clock (n .call)) es) (never-falls-shown (map (λ (e : Made). clock (e .call)) es) rise))
       .live front rest q i live .allowed
 
-  module _ (rise : (front mid rest : List (Option ℕ)) (t u : ℕ) → moving-clocks es ≡ front ++ (some t ∷ (mid ++ (some u ∷ rest))) → t ≤ u) where
-    within : WithinAllowances es a cpu memory
-    within = no-period-overspent cpu memory a₀ a out out′ o es h f (subst (NeverFall 0) (map-told moving-clock es) (never-falls-shown (moving-clocks es) rise))
+  module _ (rise : (front mid rest : List (Option ℕ)) (t u : ℕ) → map (λ (e : Made). cond (eqb (e .returned) 0 || eqb (e .returned) 12) (clock (e .call)) none) es ≡ front ++ (some t ∷ (mid ++ (some u ∷ rest))) → t ≤ u) where
+    -- for every list of calls whose clock values, of calls accepted or refused with 12, are such that of any two the later one is not below the earlier one
+    allowances : WithinAllowances es a cpu memory
+    allowances = no-period-overspent cpu memory a₀ a out out′ o es h f (subst (NeverFall 0) (map-told moving-clock es) (never-falls-shown (map (λ (e : Made). cond (eqb (e .returned) 0 || eqb (e .returned) 12) (clock (e .call)) none) es) rise))
 
     -- the same, where only calls that are accepted or refused with 12 are asked for their clock values
     pub overspends-no-period-moving : (front rest : List Made) → es ≡ front ++ rest → (i : ℕ) → is-budget (decode (last front a) .registry) i ≡ true
         → (p : ℕ) → spent (ledger-from (told es) cpu memory) p i ≤ account-of (decode (last front a) .registry) i .«cpu_allowance»
-    overspends-no-period-moving front rest q i live = within .live front rest q i live .allowed
+    overspends-no-period-moving front rest q i live = allowances .live front rest q i live .allowed
 
     -- every budget of the ledger, removed or not
     pub none-carved-overspends : (b : ℕ) (x : Carved) → at (ledger-from (told es) cpu memory .budgets) b ≡ some x → (p : ℕ) → spent (ledger-from (told es) cpu memory) p b ≤ x .allowance
-    none-carved-overspends = within .carved
+    none-carved-overspends = allowances .carved
 
     -- those that were live are in it, as they were on the board, and "below" is P1's, removed since or not
     pub live-in-ledger : (front rest : List Made) → es ≡ front ++ rest → (i : ℕ) → is-budget (decode (last front a) .registry) i ≡ true
         → (at (ledger-from (told es) cpu memory .budgets) i
         ≡ some (record { parent = payer-of (decode (last front a) .registry) i; allowance = account-of (decode (last front a) .registry) i .«cpu_allowance» }))
         × ((b : ℕ) → under (ledger-from (told es) cpu memory .budgets) b i ≡ objects-within.within (decode (last front a) .registry) b i)
-    live-in-ledger front rest q i live = let E = within .live front rest q i live in (E .listed, E .below)
+    live-in-ledger front rest q i live = let E = allowances .live front rest q i live in (E .listed, E .below)
 
   -- nothing is struck out of the ledger, budgets and charges; and each charge that a call adds is noted at its clock value
   pub nothing-struck-out : (e : Made) → ((bs : List (Row Carved)) × (ledger-from (told (es ++ (e ∷ []))) cpu memory .budgets ≡ bs ++ ledger-from (told es) cpu memory .budgets))
