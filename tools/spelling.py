@@ -12,8 +12,8 @@ import os
 import re
 import sys
 
-OWN = re.compile(r"^\s*(?:pub\s+)?use (Rattle\.(?:carv\w*|replay\w*)\.(?:specs|proofs)[\w.+']*)(?:\.\{([^}]*)\})?(?: as (\S+))?")
-KIT = re.compile(r"^\s*(?:pub\s+)?use (?!Rattle\.(?:carv|replay))([\w.+']*)(?:\.\{([^}]*)\})?(?: as (\S+))?")
+OWN = re.compile(r"^\s*(?:pub\s+)?use (Rattle\.(?:carv\w*|replay\w*)\.(?:specs|proofs)(?:\.[\w+']+)*)(?:\.\{([^}]*)\})?(?: as (\S+))?")
+KIT = re.compile(r"^\s*(?:pub\s+)?use (?!Rattle\.(?:carv|replay))([\w+']+(?:\.[\w+']+)*)(?:\.\{([^}]*)\})?(?: as (\S+))?")
 WORD = re.compile(r"(?<![\w'◌ℕ₀₁₂₃₄₅₆₇₈₉-])([A-Za-z][\wℕ₀-₉']*(?:-[\wℕ₀-₉'*]+)*)(?![\w'-])")
 DECLARED = re.compile(r"^(\s*)(?:(?:abbrev|unfoldable|pub|record|data|ruleset|mutual)\s+)*([A-Za-z][\w₀-₉'-]*)((?:\s+\([^)]*\)|\s+\{[^}]*\})*)\s*(:|=)\s")
 

@@ -30,20 +30,20 @@ turned a b p = sym p
 
 -- what the result r of a call tells of the test b that the call computes
 pub said_not : (r b : Bool) → r ≡ b → not r ≡ true → b ≡ false
-said_not r b p q = sym p ∙ not_true r q
+said_not r b p q = sym p ∙ not-true r q
 
 pub said_so : (r b : Bool) → r ≡ b → not r ≡ false → b ≡ true
-said_so r b p q = sym p ∙ not_false r q
+said_so r b p q = sym p ∙ not-false r q
 
 -- a + b against max, with no sum
 pub sum_over : (a b max : ℕ) → max < b → leb (a + b) max ≡ false
-sum_over a b max p = lt_leb (a + b) max (omega arith)
+sum_over a b max p = lt-leb (a + b) max (omega arith)
 
 pub sum_above : (a b max : ℕ) → b ≤ max → max - b < a → leb (a + b) max ≡ false
-sum_above a b max p q = lt_leb (a + b) max (omega arith)
+sum_above a b max p q = lt-leb (a + b) max (omega arith)
 
 pub sum_at_most : (a b max : ℕ) → b ≤ max → a ≤ max - b → leb (a + b) max ≡ true
-sum_at_most a b max p q = le_leb (a + b) max (omega arith)
+sum_at_most a b max p q = le-leb (a + b) max (omega arith)
 
 -- what the code asks of a sound account
 pub reserved_within : (a : Account) → sound a ≡ true → a.cpu_reserved ≤ a.cpu_allowance
@@ -67,7 +67,7 @@ use_fits a n p q f = let s : Sound a = sound_told p in record { fits = omega ari
 -- what the code asks where a renewal is due
 pub due_started : (a : Account) (t : ℕ) → due a t ≡ true → a.period_start ≤ t
 unfolding due
-due_started a t p = leb_true _ _ (first (leb a.period_start t) (leb period (t - a.period_start)) p)
+due_started a t p = leb-true _ _ (first (leb a.period_start t) (leb period (t - a.period_start)) p)
 
 -- what the code asks of a child that can be returned
 pub returned_cpu : (a child : Account) → returnable a child ≡ true → child.cpu_allowance ≤ a.cpu_reserved
@@ -78,10 +78,10 @@ returned_memory a child p = let r : Returnable a child = returnable_told p in r.
 
 -- an amount against the free memory r that a call found
 pub above_free : (a : Account) (n r : ℕ) → r ≡ free a → r < n → leb n (free a) ≡ false
-above_free a n r e p = lt_leb n (free a) (omega arith)
+above_free a n r e p = lt-leb n (free a) (omega arith)
 
 pub in_free : (a : Account) (n r : ℕ) → r ≡ free a → n ≤ r → leb n (free a) ≡ true
-in_free a n r e p = le_leb n (free a) (omega arith)
+in_free a n r e p = le-leb n (free a) (omega arith)
 
 pub within_free : (a : Account) (n r : ℕ) → r ≡ free a → n ≤ r → n ≤ free a
 within_free a n r e p = omega arith
@@ -89,16 +89,16 @@ within_free a n r e p = omega arith
 -- a carve-out's answers, of the renewed account
 pub carved_cpu : (a : Account) (ns bytes : ℕ) → a.cpu_left < ns → carve_outcome CpuLimitExceeded a blank ≡ carved a ns bytes
 unfolding carved
-carved_cpu a ns bytes p = rw (lt_leb ns a.cpu_left p)
+carved_cpu a ns bytes p = rw (lt-leb ns a.cpu_left p)
 
 pub carved_memory : (a : Account) (ns bytes : ℕ) → ns ≤ a.cpu_left → leb bytes (free a) ≡ false → carve_outcome MemoryLimitExceeded a blank ≡ carved a ns bytes
 unfolding carved
-carved_memory a ns bytes p q = rw (le_leb ns a.cpu_left p, q)
+carved_memory a ns bytes p q = rw (le-leb ns a.cpu_left p, q)
 
 pub carved_done : (a parent child : Account) (ns bytes : ℕ) → ns ≤ a.cpu_left → leb bytes (free a) ≡ true → parent ≡ reserve a ns bytes → child ≡ fresh ns bytes a.period_start
     → carve_outcome Done parent child ≡ carved a ns bytes
 unfolding carved
-carved_done a parent child ns bytes p q r s = rw (le_leb ns a.cpu_left p, q, r, s)
+carved_done a parent child ns bytes p q r s = rw (le-leb ns a.cpu_left p, q, r, s)
 
 -- a call's result in the place of what its contract says of it
 pub renewed_sound : (r a : Account) (t : ℕ) → r ≡ renew a t → sound a ≡ true → sound r ≡ true
@@ -114,6 +114,6 @@ pub carved_of : (r : CarveOut) (c m : ℕ) (a b : Account) → r ≡ carved a c 
 carved_of r c m a b p e = cc
 
 -- for a function that answers a test, and for a call
-pub ruleset tests = (both, not_first, not_second, turned, said_not, said_so, sum_over, sum_above, sum_at_most, le_leb, lt_leb, eq_eqb, ne_eqb, rules)
+pub ruleset tests = (both, not_first, not_second, turned, said_not, said_so, sum_over, sum_above, sum_at_most, le-leb, lt-leb, eq-eqb, ne_eqb, rules)
 
-pub ruleset answers = (asked, missed, renew_not_due, renew_due, said_not, said_so, reserved_within, memory_reserved_within, used_within, reserve_fits, memory_reserve_fits, use_fits, due_started, returned_cpu, returned_memory, above_free, in_free, within_free, carved_cpu, carved_memory, carved_done, renewed_sound, answered, spent_of, carved_of, le_leb, lt_leb, both, rules)
+pub ruleset answers = (asked, missed, renew_not_due, renew_due, said_not, said_so, reserved_within, memory_reserved_within, used_within, reserve_fits, memory_reserve_fits, use_fits, due_started, returned_cpu, returned_memory, above_free, in_free, within_free, carved_cpu, carved_memory, carved_done, renewed_sound, answered, spent_of, carved_of, le-leb, lt-leb, both, rules)

@@ -10,10 +10,10 @@ turned a b p = sym p
 
 -- `!f(..)` was true, or false
 pub said_not : (r b : Bool) → r ≡ b → not r ≡ true → b ≡ false
-said_not r b p q = sym p ∙ not_true r q
+said_not r b p q = sym p ∙ not-true r q
 
 pub said_so : (r b : Bool) → r ≡ b → not r ≡ false → b ≡ true
-said_so r b p q = sym p ∙ not_false r q
+said_so r b p q = sym p ∙ not-false r q
 
 -- for a function that answers a test
-pub ruleset tests = (both, not_first, not_second, turned, said_not, said_so, le_leb, lt_leb, eq_eqb, ne_eqb, rules)
+pub ruleset tests = (both, not_first, not_second, turned, said_not, said_so, le-leb, lt-leb, eq-eqb, ne_eqb, rules)

@@ -10,9 +10,9 @@ turned a b p = sym p
 
 -- what the result r of a call tells of the test b that the call computes
 pub said_not : (r b : Bool) → r ≡ b → not r ≡ true → b ≡ false
-said_not r b p q = sym p ∙ not_true r q
+said_not r b p q = sym p ∙ not-true r q
 
 pub said_so : (r b : Bool) → r ≡ b → not r ≡ false → b ≡ true
-said_so r b p q = sym p ∙ not_false r q
+said_so r b p q = sym p ∙ not-false r q
 
-pub ruleset tests = (both, not_first, not_second, turned, said_not, said_so, eq_eqb, ne_eqb, rules)
+pub ruleset tests = (both, not_first, not_second, turned, said_not, said_so, eq-eqb, ne_eqb, rules)

@@ -19,7 +19,7 @@ all_equal a b e1 e2 e3 e4 e5 e6 e7 =
     e
 
 -- the test of two accounts is true where they are equal, and only there
-ruleset parts = (eqb_true, first, second)
+ruleset parts = (eqb-true, first, second)
 
 pub same_told : (a b : Account) → same a b ≡ true → a ≡ b
 unfolding same
@@ -29,7 +29,7 @@ same_told a b p =
 
 pub same_shown : (a b : Account) → a ≡ b → same a b ≡ true
 unfolding same
-same_shown a b e = rw e (search (both, eq_eqb, refl) depth 8)
+same_shown a b e = rw e (search (both, eq-eqb, refl) depth 8)
 
 -- and so is the test of two replies
 abbrev whole : Reply → Reply
@@ -47,11 +47,11 @@ same_reply_told a b p =
 
 pub same_reply_shown : (a b : Reply) → a ≡ b → same_reply a b ≡ true
 unfolding same_reply
-same_reply_shown a b e = rw e (search (both, eq_eqb, same_shown, refl))
+same_reply_shown a b e = rw e (search (both, eq-eqb, same_shown, refl))
 
 -- the child that a return leaves
 pub left_none : (o : Outcome) (child : Account) → number o.answer ≡ 0 → left o child ≡ blank
-left_none o child p = rw (eq_eqb _ _ p)
+left_none o child p = rw (eq-eqb _ _ p)
 
 pub left_kept : (o : Outcome) (child : Account) → (number o.answer ≡ 0 → ⊥) → left o child ≡ child
 left_kept o child p = rw (ne_eqb _ _ p)
@@ -69,8 +69,8 @@ gives_none op c r n1 n2 n3 n4 n5 n6 n7 =
 -- the differences with one record more
 pub differing_right : (n : ℕ) (l : List ℕ) → agrees (call l (n * 34)) (reply l (n * 34)) ≡ true → differing (n + 1) l ≡ differing n l
 unfolding differing
-differing_right n l p = rw (add_one, p) (omega arith)
+differing_right n l p = rw (add-one, p) (omega arith)
 
 pub differing_wrong : (n : ℕ) (l : List ℕ) → agrees (call l (n * 34)) (reply l (n * 34)) ≡ false → differing (n + 1) l ≡ differing n l + 1
 unfolding differing
-differing_wrong n l p = rw (add_one, p)
+differing_wrong n l p = rw (add-one, p)

@@ -18,11 +18,11 @@ module _ (l : List ℕ) (k : ℕ) where
   -- a word that is written, and one that stays
   pub written : (i n v : ℕ) → n ≡ word l (k + 13) → i < n → v ≡ word l (k + 14 + i) → v ≡ recorded_word l k i
   unfolding recorded_word
-  written i n v e h p = rw (← e, lt_ltb i n h) p
+  written i n v e h p = rw (← e, lt-ltb i n h) p
 
   pub stays : (i n : ℕ) → n ≡ word l (k + 13) → n ≤ i → unwritten ≡ recorded_word l k i
   unfolding recorded_word
-  stays i n e h = rw (← e, le_ltb i n h)
+  stays i n e h = rw (← e, le-ltb i n h)
 
   -- the words of out before place i are as recorded
   abbrev pub AsRecorded : List ℕ → ℕ → Type 0

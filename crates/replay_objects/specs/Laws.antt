@@ -18,7 +18,7 @@ all_equal : (a b : Reply) → a.number ≡ b.number → a.first ≡ b.first → 
 all_equal a b e0 e1 e2 e3 e4 e5 e6 e7 = let e : whole a ≡ whole b = cc in e
 
 -- the test is true where they are equal, and only there
-ruleset parts = (eqb_true, first, second)
+ruleset parts = (eqb-true, first, second)
 
 pub same_told : (a b : Reply) → same a b ≡ true → a ≡ b
 unfolding same
@@ -28,7 +28,7 @@ same_told a b p =
 
 pub same_shown : (a b : Reply) → a ≡ b → same a b ≡ true
 unfolding same
-same_shown a b e = rw e (search (both, eq_eqb) depth 9)
+same_shown a b e = rw e (search (both, eq-eqb) depth 9)
 
 -- for `is_same`: every word is equal, or one is not
 pub alike : (a b : Reply) → a.number ≡ b.number → a.first ≡ b.first → a.second ≡ b.second → a.third ≡ b.third → a.fourth ≡ b.fourth
@@ -56,9 +56,9 @@ module _ (op : ℕ) where
   none_listed n1 n2 n3 n4 n5 n6 n7 n8 n9 n10 n11 n12 n13 =
       refuted (leb 1 op && leb op 13)
       (λ p.
-      let h : 1 ≤ op = leb_true 1 op (first (leb 1 op) (leb op 13) p) in
+      let h : 1 ≤ op = leb-true 1 op (first (leb 1 op) (leb op 13) p) in
       let k : 14 ≤ op = above 13 (above 12 (above 11 (above 10 (above 9 (above 8 (above 7 (above 6 (above 5 (above 4 (above 3 (above 2 (above 1 h n1) n2) n3) n4) n5) n6) n7) n8) n9) n10) n11) n12) n13 in
-      omega (arith, k, leb_true op 13 (second (leb 1 op) (leb op 13) p)))
+      omega (arith, k, leb-true op 13 (second (leb 1 op) (leb op 13) p)))
 
 -- one record more
 pub one_more : (l a : List ℕ) (n d : ℕ) (a₁ a₂ : List ℕ) (c : Call) (y : Reply) (b : Bool) → Replays a a₁ l n d → c ≡ call l (n * 16) → y ≡ reply l (n * 16)

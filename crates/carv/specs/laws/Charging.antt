@@ -82,7 +82,7 @@ module _ {c : objects.Call} {a : List ℕ} {e : Made} (M : Makes c a e) where
 
   -- where a call is accepted the area is sound
   accepted_sound : e.returned ≡ 0 → sound_area a ≡ true
-  accepted_sound q = test (sound_area a) (λ s. s) (λ s. absurd (eqb_false e.returned 0 (refused_no s) q))
+  accepted_sound q = test (sound_area a) (λ s. s) (λ s. absurd (eqb-false e.returned 0 (refused_no s) q))
 
 -- two calls, the second on what the first left
 module _ {c d : objects.Call} {a : List ℕ} {e f : Made} (M : Makes c a e) (N : Makes d e.left f) (s : sound_area a ≡ true) where
@@ -170,13 +170,13 @@ module _ (i x y : ℕ) (a : List ℕ) (e f g : Made) (E : Makes (objects.charge_
   pub numbered : e.returned ≡ 0 → f.returned ≡ g.returned
   numbered p =
       let s = accepted_sound E p in
-      answers_next E F s ∙ charging.numbered i (decode a).registry (registry_sound a s) x y (eq_eqb _ 0 (sym (answers E s) ∙ p)) ∙ sym (answers G s)
+      answers_next E F s ∙ charging.numbered i (decode a).registry (registry_sound a s) x y (eq-eqb _ 0 (sym (answers E s) ∙ p)) ∙ sym (answers G s)
 
   -- ".. and leaves the same state", every byte of it
   pub same : g.returned ≡ 0 → f.left ≡ g.left
   same q =
       let s = accepted_sound G q in
-      let pass = eq_eqb _ 0 (sym (answers G s) ∙ q) in
+      let pass = eq-eqb _ 0 (sym (answers G s) ∙ q) in
       same_bytes (decode a) (left_by i y (left_by i x (decode a).registry)) (left_by i (x + y) (decode a).registry) (leaves_next E F s) (leaves G s)
       (ap (λ (z : RegistryReply). z.after) (charging.same i (decode a).registry (registry_sound a s) x y pass)) F.bytes G.bytes
 
@@ -185,7 +185,7 @@ module _ (i x y : ℕ) (a : List ℕ) (e f g : Made) (E : Makes (objects.charge_
   kept bytes p q =
       let s = accepted_sound E p in
       let r = (decode a).registry in
-      let (second_kept, whole_kept) = charging.kept i r (registry_sound a s) x y (eq_eqb _ 0 (sym (answers E s) ∙ p)) (ne_eqb _ 0 (λ z. q (answers_next E F s ∙ z))) in (
+      let (second_kept, whole_kept) = charging.kept i r (registry_sound a s) x y (eq-eqb _ 0 (sym (answers E s) ∙ p)) (ne_eqb _ 0 (λ z. q (answers_next E F s ∙ z))) in (
         answers_next E F s ∙ ap (λ (z : RegistryReply). z.number) second_kept,
         same_bytes (decode a) (left_by i y (left_by i x r)) (left_by i x r) (leaves_next E F s) (leaves E s) (ap (λ (z : RegistryReply). z.after) second_kept) F.bytes E.bytes,
         answers G s ∙ ap (λ (z : RegistryReply). z.number) whole_kept,
@@ -198,7 +198,7 @@ pub restored : (i x : ℕ) (a : List ℕ) (e f : Made) → Makes (objects.charge
 restored i x a e f E F bytes p =
     let s = accepted_sound E p in
     let r = (decode a).registry in
-    let back = charging.restored i r (registry_sound a s) x (eq_eqb _ 0 (sym (answers E s) ∙ p)) in (
+    let back = charging.restored i r (registry_sound a s) x (eq-eqb _ 0 (sym (answers E s) ∙ p)) in (
       answers_next E F s ∙ ap (λ (z : RegistryReply). z.number) back,
       same_bytes (decode a) (registry_runs.run (objects.uncharge i x) (left_by i x r)).after r (leaves_next E F s) (itself s) (ap (λ (z : RegistryReply). z.after) back) F.bytes bytes,
     )
@@ -237,9 +237,9 @@ module _ (i j x y : ℕ) (a : List ℕ) (e f f' e' : Made) (E : Makes (objects.c
   both_either_order p q =
       let s = accepted_sound E p in
       let r = (decode a).registry in
-      let (j_first, i_next, state) = charging.both_either_order i j x y r (registry_sound a s) (eq_eqb _ 0 (sym (answers E s) ∙ p)) (eq_eqb _ 0 (sym (answers_next E F s) ∙ q)) in (
-        answers F' s ∙ eqb_true _ 0 j_first,
-        answers_next F' E' s ∙ eqb_true _ 0 i_next,
+      let (j_first, i_next, state) = charging.both_either_order i j x y r (registry_sound a s) (eq-eqb _ 0 (sym (answers E s) ∙ p)) (eq-eqb _ 0 (sym (answers_next E F s) ∙ q)) in (
+        answers F' s ∙ eqb-true _ 0 j_first,
+        answers_next F' E' s ∙ eqb-true _ 0 i_next,
         same_bytes (decode a) (left_by j y (left_by i x r)) (left_by i x (left_by j y r)) (leaves_next E F s) (leaves_next F' E' s) state F.bytes E'.bytes,
       )
 
@@ -327,7 +327,7 @@ module _ (i n : ℕ) (ns : List ℕ) (a : List ℕ) (es : List Made) (C : Charge
         let r = (decode a).registry in
         let (all, left) = list_is i (n ∷ ns) a es C s in
         same_bytes (decode a) (left_by_all i (n ∷ ns) r) (left_by i (sum (n ∷ ns)) r) left (leaves G s)
-        (charging.all_same i n ns r (registry_sound a s) (sym all ∙ list_added ∙ eq_eqb g.returned 0 q)) (last_bytes i n ns a es C) G.bytes
+        (charging.all_same i n ns r (registry_sound a s) (sym all ∙ list_added ∙ eq-eqb g.returned 0 q)) (last_bytes i n ns a es C) G.bytes
 
   -- amounts with a sum of 2^64 or more, which is no argument, are not accepted throughout either
   pub list_too_large : Bytes a → 2 ^ 64 ≤ sum (n ∷ ns) → all_accepted es ≡ false

@@ -183,7 +183,7 @@ opened_is cpu memory a₀ a out out' o = test (eqb (length out) 20)
     (λ y. let r = o.reports y in
     test (eqb (length a₀) 68_144)
     (λ z. test (leb cpu period)
-    (λ c. (leb_true cpu period c, (r.said.opened z c).1))
+    (λ c. (leb-true cpu period c, (r.said.opened z c).1))
     (λ c. absurd (none_of r.answer 2 (omega arith) r.number (r.said.share z c).0)))
     (λ z. absurd (none_of r.answer 1 (omega arith) r.number (r.said.size z).0)))
     (λ y. absurd (zero_one (o.size y).0))

@@ -27,23 +27,23 @@ registry_reported_as x y e r out out' p q = rw e (p, q)
 module _ (says : Answer → List ℕ → Type 0) (a out : List ℕ) where
   -- the answer words are not 20
   pub returned_one : (length out ≡ 20 → ⊥) → Returns says a out 1 a out
-  returned_one n = record { size = λ q. (refl, refl, refl); reports = λ q. absurd (n (eqb_true (length out) 20 q)) }
+  returned_one n = record { size = λ q. (refl, refl, refl); reports = λ q. absurd (n (eqb-true (length out) 20 q)) }
 
   -- the answer x is reported
   pub returned : length out ≡ 20 → (x : Answer) (a' : List ℕ) → says x a' → (r : ℕ) (out' : List ℕ) → (r ≡ number x) × (out' ≡ reported x out) → Returns says a out r a' out'
   returned e x a' h r out' p = record {
-    size = λ q. absurd (eqb_false (length out) 20 q e);
+    size = λ q. absurd (eqb-false (length out) 20 q e);
     reports = λ q. record { answer = x; said = h; number = p.0; values = p.1 };
   }
 
 -- the same of a call that is lent a register image
 module _ (call : Board → BoardReply) (a m out : List ℕ) where
   pub c_created_size : (length out ≡ 20 → ⊥) → CreatesInC call a m out 1 a m out
-  c_created_size n = record { size = λ q. (refl, refl, refl, refl); reports = λ q. absurd (n (eqb_true (length out) 20 q)) }
+  c_created_size n = record { size = λ q. (refl, refl, refl, refl); reports = λ q. absurd (n (eqb-true (length out) 20 q)) }
 
   pub c_created : length out ≡ 20 → (x : Answer) (a' m' : List ℕ) → Created call a m x a' m' → (r : ℕ) (out' : List ℕ) → (r ≡ number x) × (out' ≡ reported x out) → CreatesInC call a m out r a' m' out'
   c_created e x a' m' h r out' p = record {
-    size = λ q. absurd (eqb_false (length out) 20 q e);
+    size = λ q. absurd (eqb-false (length out) 20 q e);
     reports = λ q. record { answer = x; said = h; number = p.0; values = p.1 };
   }
 

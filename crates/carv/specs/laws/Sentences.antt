@@ -242,7 +242,7 @@ module _ (a : List ℕ) (e : Made) (h : Ensures a e) where
       first_three : (get_or e.words' 0 0 ≡ reading.over reading.used registry i) × (get_or e.words' 1 0 ≡ reading.over reading.free registry i)
           × (get_or e.words' 2 0 ≡ reading.over reading.left registry i)
       first_three =
-          let size : length e.words ≡ 20 = eqb_true (length e.words) 20 (first (eqb (length e.words) 20) (cond (has_image e.call) (eqb (length e.image) 512) true) y) in
+          let size : length e.words ≡ 20 = eqb-true (length e.words) 20 (first (eqb (length e.words) 20) (cond (has_image e.call) (eqb (length e.image) 512) true) y) in
           rw totals_told (three_set e.words (reading.over reading.used registry i) (reading.over reading.free registry i) (reading.over reading.left registry i) (omega arith))
 
       -- "For each budget, used plus free over it and all below must equal its memory limit": of the first two answer words
@@ -256,7 +256,7 @@ module _ (a : List ℕ) (e : Made) (h : Ensures a e) where
     -- "Root totals are the totals over all live budgets"
     pub root_totals : i ≡ 1 → e.words' ≡ sets e.words 0 (reading.over_all reading.used registry ∷ reading.over_all reading.free registry ∷ reading.over_all reading.left registry ∷ [])
     root_totals q =
-        let live : is_budget registry i ≡ true = rw q (eq_eqb _ 6 (area_sound a s).registry.root) in
+        let live : is_budget registry i ≡ true = rw q (eq-eqb _ 6 (area_sound a s).registry.root) in
         let S = (area_sound a s).registry in
         totals_told live ∙ rw (q, root_total registry S reading.used, root_total registry S reading.free, root_total registry S reading.left)
 
@@ -445,7 +445,7 @@ module _ (cpu memory : ℕ) (a₀ a out out' : List ℕ) (o : Opens cpu memory a
   taken_and_noted e i x y u v =
       let B = (charges_noted cpu memory a₀ a out out' o es h f e).taken i x y u v in
       let with_test : Bool → ℕ = λ b. cond b x.taken_cpu 0 + charged_to (noted (es ++ (e ∷ [])) cpu memory).charges i + y.carved_cpu in (
-        λ q. B.taken ∙ ap with_test (eq_eqb y.start x.start q),
+        λ q. B.taken ∙ ap with_test (eq-eqb y.start x.start q),
         λ q. (above x.start y.start B.later q, B.taken ∙ ap with_test (ne_eqb y.start x.start q) ∙ omega arith),
       )
     where

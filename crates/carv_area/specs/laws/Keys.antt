@@ -24,10 +24,10 @@ find_none (k ∷ ks) x h = rw (ne_eqb k x (h zero (omega arith)), find_none ks x
 -- key i is x, and none before it
 pub find_at : (ks : List ℕ) (x i : ℕ) → i < length ks → get_or ks i 0 ≡ x → ((j : ℕ) → j < i → get_or ks j 0 ≡ x → ⊥) → find_in ks x ≡ At i
 unfolding find_in
-find_at [] x i a b h = absurd (not_suc_le_zero a)
-find_at (k ∷ ks) x zero a b h = rw (eq_eqb k x b)
+find_at [] x i a b h = absurd (not-suc-le-zero a)
+find_at (k ∷ ks) x zero a b h = rw (eq-eqb k x b)
 find_at (k ∷ ks) x (suc i) a b h =
-    rw (ne_eqb k x (h zero (omega arith)), find_at ks x i (le_of_suc_le_suc a) b (λ j m. h (suc j) (omega arith)))
+    rw (ne_eqb k x (h zero (omega arith)), find_at ks x i (le_of_suc-le-suc a) b (λ j m. h (suc j) (omega arith)))
 
 -- of keys that rise, key i is x
 pub find_there : (ks : List ℕ) (x i : ℕ) → Rising ks → i < length ks → get_or ks i 0 ≡ x → find_in ks x ≡ At i

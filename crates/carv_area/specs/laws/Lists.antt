@@ -15,12 +15,12 @@ lt_or_ge (suc j) (suc k) = ⊎_elim (λ h. inl (omega arith)) (λ h. inr (omega 
 
 -- two numbers that differ are in one order or the other
 pub apart : (j k : ℕ) → j ≢ k → (j < k) ⊎ (k < j)
-apart j k ne = ⊎_elim (λ h. inl h) (λ h. ⊎_elim (λ e. absurd (ne (sym e))) (λ l. inr l) (eq_or_lt_of_le h)) (lt_or_ge j k)
+apart j k ne = ⊎_elim (λ h. inl h) (λ h. ⊎_elim (λ e. absurd (ne (sym e))) (λ l. inr l) (eq-or-lt_of_le h)) (lt_or_ge j k)
 
 -- two numbers are the same or not
 pub same_or_not : (j k : ℕ) → (j ≡ k) ⊎ (j ≢ k)
 same_or_not j k =
-    ⊎_elim (λ h. inr (λ e. omega arith)) (λ h. ⊎_elim (λ e. inl (sym e)) (λ l. inr (λ e. omega arith)) (eq_or_lt_of_le h)) (lt_or_ge j k)
+    ⊎_elim (λ h. inr (λ e. omega arith)) (λ h. ⊎_elim (λ e. inl (sym e)) (λ l. inr (λ e. omega arith)) (eq-or-lt_of_le h)) (lt_or_ge j k)
 
 module _ {ℓ} {A : Type ℓ} where
   -- the length of a list made of a function
@@ -32,32 +32,32 @@ module _ {ℓ} {A : Type ℓ} where
   -- its elements
   pub get_or_tab : (n : ℕ) (f : ℕ → A) (i : ℕ) (d : A) → i < n → get_or (tab n f) i d ≡ f i
   unfolding tab
-  get_or_tab zero f i d h = absurd (not_suc_le_zero h)
+  get_or_tab zero f i d h = absurd (not-suc-le-zero h)
   get_or_tab (suc n) f zero d h = refl
-  get_or_tab (suc n) f (suc i) d h = get_or_tab n (λ j. f (suc j)) i d (le_of_suc_le_suc h)
+  get_or_tab (suc n) f (suc i) d h = get_or_tab n (λ j. f (suc j)) i d (le_of_suc-le-suc h)
 
   -- inside a list the default does not count
   pub get_d_any : (l : List A) (i : ℕ) (d e : A) → i < length l → get_or l i d ≡ get_or l i e
-  get_d_any [] i d e h = absurd (not_suc_le_zero h)
+  get_d_any [] i d e h = absurd (not-suc-le-zero h)
   get_d_any (x ∷ l) zero d e h = refl
-  get_d_any (x ∷ l) (suc i) d e h = get_d_any l i d e (le_of_suc_le_suc h)
+  get_d_any (x ∷ l) (suc i) d e h = get_d_any l i d e (le_of_suc-le-suc h)
 
   -- a run of stores leaves the places before it
   pub get_d_sets_before : (vs l : List A) (o j : ℕ) (d : A) → j < o → get_or (sets l o vs) j d ≡ get_or l j d
   get_d_sets_before [] l o j d h = refl
   get_d_sets_before (v ∷ vs) l o j d h =
-      get_d_sets_before vs (set l o v) (suc o) j d (omega arith) ∙ get_or_set_other l o j v d (λ e. omega arith)
+      get_d_sets_before vs (set l o v) (suc o) j d (omega arith) ∙ get_or-set_other l o j v d (λ e. omega arith)
 
   -- and those behind it
   pub get_or_sets_after : (vs l : List A) (o j : ℕ) (d : A) → o + length vs ≤ j → get_or (sets l o vs) j d ≡ get_or l j d
   get_or_sets_after [] l o j d h = refl
   get_or_sets_after (v ∷ vs) l o j d h =
-      get_or_sets_after vs (set l o v) (suc o) j d (omega arith) ∙ get_or_set_other l o j v d (λ e. omega arith)
+      get_or_sets_after vs (set l o v) (suc o) j d (omega arith) ∙ get_or-set_other l o j v d (λ e. omega arith)
 
   -- and has its values at its own
   pub get_or_sets_in : (vs l : List A) (o i : ℕ) (d : A) → o + length vs ≤ length l → i < length vs → get_or (sets l o vs) (o + i) d ≡ get_or vs i d
-  get_or_sets_in [] l o i d h k = absurd (not_suc_le_zero k)
+  get_or_sets_in [] l o i d h k = absurd (not-suc-le-zero k)
   get_or_sets_in (v ∷ vs) l o zero d h k =
-      rw add_zero (get_d_sets_before vs (set l o v) (suc o) o d (omega arith) ∙ get_or_set_same l o v d (omega arith))
+      rw add-zero (get_d_sets_before vs (set l o v) (suc o) o d (omega arith) ∙ get_or-set_same l o v d (omega arith))
   get_or_sets_in (v ∷ vs) l o (suc i) d h k =
-      rw (add_suc, ← suc_add) (get_or_sets_in vs (set l o v) (suc o) i d (rw length_set (omega arith)) (le_of_suc_le_suc k))
+      rw (add-suc, ← suc-add) (get_or_sets_in vs (set l o v) (suc o) i d (rw length-set (omega arith)) (le_of_suc-le-suc k))

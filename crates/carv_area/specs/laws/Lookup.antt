@@ -34,7 +34,7 @@ module _ {A : Type 0} where
   unfolding remove_at
   step d r m x true e p l = record {
     within = omega arith;
-    same = eqb_true r.id x e;
+    same = eqb-true r.id x e;
     is = rw e;
     changed = λ f. rw e;
     erased = rw e;
@@ -62,18 +62,18 @@ module _ {A : Type 0} where
 
   -- each id lies between the bounds
   pub rising_bounds : (rows : List (Row A)) (l n i : ℕ) → Table.Rising l n rows → i < length rows → (l ≤ get_or (ids rows) i 0) × (get_or (ids rows) i 0 < n)
-  rising_bounds [] l n i u h = absurd (not_suc_le_zero h)
+  rising_bounds [] l n i u h = absurd (not-suc-le-zero h)
   rising_bounds (r ∷ m) l n zero u h = (u.0, rising_le m (suc r.id) n u.1)
-  rising_bounds (r ∷ m) l n (suc i) u h = let b = rising_bounds m (suc r.id) n i u.1 (le_of_suc_le_suc h) in let z = u.0 in (omega arith, b.1)
+  rising_bounds (r ∷ m) l n (suc i) u h = let b = rising_bounds m (suc r.id) n i u.1 (le_of_suc-le-suc h) in let z = u.0 in (omega arith, b.1)
 
   -- ids that rise from one to the next rise by place
   pub rising_ids : (rows : List (Row A)) (l n : ℕ) → Table.Rising l n rows → Rising (ids rows)
   unfolding Rising
-  rising_ids [] l n u i j a b = absurd (not_suc_le_zero b)
+  rising_ids [] l n u i j a b = absurd (not-suc-le-zero b)
   rising_ids (r ∷ m) l n u zero zero a b = absurd (omega arith)
   rising_ids (r ∷ m) l n u (suc i) zero a b = absurd (omega arith)
-  rising_ids (r ∷ m) l n u zero (suc j) a b = (rising_bounds m (suc r.id) n j u.1 (omega (arith, length_map m (λ q. q.id)))).0
-  rising_ids (r ∷ m) l n u (suc i) (suc j) a b = rising_ids m (suc r.id) n u.1 i j (le_of_suc_le_suc a) (le_of_suc_le_suc b)
+  rising_ids (r ∷ m) l n u zero (suc j) a b = (rising_bounds m (suc r.id) n j u.1 (omega (arith, length-map m (λ q. q.id)))).0
+  rising_ids (r ∷ m) l n u (suc i) (suc j) a b = rising_ids m (suc r.id) n u.1 i j (le_of_suc-le-suc a) (le_of_suc-le-suc b)
 
   -- and back
   pub ids_rising : (rows : List (Row A)) (l n : ℕ) → l ≤ n → Rising (ids rows)
@@ -83,7 +83,7 @@ module _ {A : Type 0} where
   ids_rising (q ∷ m) l n h r b = (
     (b 0 (omega arith)).0,
     ids_rising m (suc q.id) n (b 0 (omega arith)).1 (λ i j x y. r (suc i) (suc j) (omega arith) (omega arith))
-        (λ i x. (r 0 (suc i) (omega arith) (omega (arith, length_map m (λ z. z.id))), (b (suc i) (omega arith)).1)),
+        (λ i x. (r 0 (suc i) (omega arith) (omega (arith, length-map m (λ z. z.id))), (b (suc i) (omega arith)).1)),
   )
 
   -- an id that is not below the bound goes behind the others
@@ -91,7 +91,7 @@ module _ {A : Type 0} where
   put_last [] l n i a u h = refl
   put_last (r ∷ m) l n i a u h =
       let z = rising_le m (suc r.id) n u.1 in
-      rw (ne_eqb r.id i (λ q. omega arith), le_ltb i r.id (omega arith)) (ap (λ (q : List (Row A)). r ∷ q) (put_last m (suc r.id) n i a u.1 h))
+      rw (ne_eqb r.id i (λ q. omega arith), le-ltb i r.id (omega arith)) (ap (λ (q : List (Row A)). r ∷ q) (put_last m (suc r.id) n i a u.1 h))
 
   -- an id that is not there goes behind the ids below it
   pub put_insert : (rows : List (Row A)) (x : ℕ) (a : A) → at rows x ≡ none → Table.put x a rows ≡ insert_at rows (rank_in (ids rows) x) (record { id = x; it = a })
@@ -101,8 +101,8 @@ module _ {A : Type 0} where
       test (eqb r.id x)
       (λ e. let q : some r.it ≡ none = rw e at h in cc)
       (λ e. rw e (test (ltb x r.id)
-      (λ f. rw (f, le_ltb r.id x (omega (arith, ltb_true x r.id f))))
-      (λ f. rw (f, lt_ltb r.id x (above r.id x (ltb_false x r.id f) (eqb_false r.id x e))) (ap (λ (q : List (Row A)). r ∷ q) (put_insert m x a (rw e at h))))))
+      (λ f. rw (f, le-ltb r.id x (omega (arith, ltb-true x r.id f))))
+      (λ f. rw (f, lt-ltb r.id x (above r.id x (ltb-false x r.id f) (eqb-false r.id x e))) (ap (λ (q : List (Row A)). r ∷ q) (put_insert m x a (rw e at h))))))
     where
       above : (y z : ℕ) → y ≤ z → (y ≡ z → ⊥) → y < z
       above y z h d = omega arith
@@ -136,6 +136,6 @@ module _ {A : Type 0} (fields : Row A → List ℕ) (w : ℕ) (wide : (r : Row A
   rows_placed x i e n =
       let k : keys w (words t) ≡ ids rows = keys_are fields w wide (λ r. r.id) first d some (words t) rows h.holds in
       let q : i ≡ rank_in (ids rows) x = e ∙ ap (λ (ks : List ℕ). rank_in ks x) k in (
-        omega (arith, (ranked (ids rows) x).within, length_map rows (λ r. r.id)),
+        omega (arith, (ranked (ids rows) x).within, length-map rows (λ r. r.id)),
         λ a. rw q (put_insert rows x a n),
       )

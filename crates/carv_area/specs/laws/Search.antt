@@ -20,9 +20,9 @@ pub record Ranked (ks : List ℕ) (x i : ℕ) : Type 0 where
 pub rank_is : (ks : List ℕ) (x i : ℕ) → Ranked ks x i → i ≡ rank_in ks x
 unfolding rank_in
 rank_is [] x i r = let h = r.within in omega arith
-rank_is (k ∷ ks) x zero r = rw (le_ltb k x (r.next (omega arith)))
+rank_is (k ∷ ks) x zero r = rw (le-ltb k x (r.next (omega arith)))
 rank_is (k ∷ ks) x (suc i) r =
-    rw (lt_ltb k x (r.below zero (omega arith)))
+    rw (lt-ltb k x (r.below zero (omega arith)))
     (ap suc (rank_is ks x i (record {
       within = let h = r.within in omega arith;
       below = λ j h. r.below (suc j) (omega arith);
@@ -32,12 +32,12 @@ rank_is (k ∷ ks) x (suc i) r =
 -- and back
 pub ranked : (ks : List ℕ) (x : ℕ) → Ranked ks x (rank_in ks x)
 unfolding rank_in
-ranked [] x = record { within = omega arith; below = λ j h. absurd (not_suc_le_zero h); next = λ h. absurd (not_suc_le_zero h) }
+ranked [] x = record { within = omega arith; below = λ j h. absurd (not-suc-le-zero h); next = λ h. absurd (not-suc-le-zero h) }
 ranked (k ∷ ks) x =
     let r = ranked ks x in
     test (ltb k x)
-    (λ e. rw e record { within = let w = r.within in omega arith; below = λ j. low (ltb_true k x e) r.below j; next = λ h. r.next (omega arith) })
-    (λ e. rw e record { within = omega arith; below = λ j h. absurd (not_suc_le_zero h); next = λ h. ltb_false k x e })
+    (λ e. rw e record { within = let w = r.within in omega arith; below = λ j. low (ltb-true k x e) r.below j; next = λ h. r.next (omega arith) })
+    (λ e. rw e record { within = omega arith; below = λ j h. absurd (not-suc-le-zero h); next = λ h. ltb-false k x e })
   where
     low : k < x → ((j : ℕ) → j < rank_in ks x → get_or ks j 0 < x) → (j : ℕ) → j < suc (rank_in ks x) → get_or (k ∷ ks) j 0 < x
     low a b zero h = a
@@ -45,7 +45,7 @@ ranked (k ∷ ks) x =
 
 -- there is no key: none is below x
 pub rank_none : (ks : List ℕ) (x : ℕ) → length ks ≤ 0 → 0 ≡ rank_in ks x
-rank_none ks x h = rank_is ks x 0 (record { within = omega arith; below = λ j a. absurd (not_suc_le_zero a); next = λ a. absurd (omega arith) })
+rank_none ks x h = rank_is ks x 0 (record { within = omega arith; below = λ j a. absurd (not-suc-le-zero a); next = λ a. absurd (omega arith) })
 
 -- the key behind those below x is not x: then no key is
 pub absent : (ks : List ℕ) (x i : ℕ) → Rising ks → i ≡ rank_in ks x → (i < length ks → get_or ks i 0 ≡ x → ⊥) → find_in ks x ≡ Nothing
@@ -55,14 +55,14 @@ absent ks x i r e ne =
     find_none ks x
     (λ j l q. ⊎_elim
     (λ (a : j < i). omega (arith, k.below j a))
-    (λ (a : i ≤ j). ⊎_elim (λ (b : i ≡ j). ne (omega arith) (ap (λ (y : ℕ). get_or ks y 0) b ∙ q)) (λ (b : i < j). omega (arith, k.next (omega arith), r i j b l)) (eq_or_lt_of_le a))
+    (λ (a : i ≤ j). ⊎_elim (λ (b : i ≡ j). ne (omega arith) (ap (λ (y : ℕ). get_or ks y 0) b ∙ q)) (λ (b : i < j). omega (arith, k.next (omega arith), r i j b l)) (eq-or-lt_of_le a))
     (lt_or_ge j i))
 
 module _ {ks : List ℕ} {x lo len : ℕ} (r : Rising ks) (b : Bracket ks x lo len) (half : ℕ) (one : 1 ≤ half) (fit : half + half ≤ len) where
   -- no key before place m is above key m
   up_to : (m : ℕ) → m < length ks → (k : ℕ) → k ≤ m → get_or ks k 0 ≤ get_or ks m 0
   unfolding Rising
-  up_to m h k l = ⊎_elim (λ e. rw e (omega arith)) (λ a. omega (arith, r k m a h)) (eq_or_lt_of_le l)
+  up_to m h k l = ⊎_elim (λ e. rw e (omega arith)) (λ a. omega (arith, r k m a h)) (eq-or-lt_of_le l)
 
   -- the key before the middle is below x
   pub go_right : get_or ks ((lo + half) - 1) 0 < x → Bracket ks x (lo + half) (len - half)
@@ -105,7 +105,7 @@ module _ {ks : List ℕ} {x lo len : ℕ} (b : Bracket ks x lo len) (m : len ≤
 -- two keys, d places apart
 rising_gap : (ks : List ℕ) → Rising ks → (i d : ℕ) → i + d < length ks → get_or ks i 0 + d ≤ get_or ks (i + d) 0
 unfolding Rising
-rising_gap ks r i zero h = rw (add_zero, add_zero) (omega arith)
+rising_gap ks r i zero h = rw (add-zero, add-zero) (omega arith)
 rising_gap ks r i (suc d) h =
     let a = rising_gap ks r i d (omega arith) in
     let b : get_or ks (i + d) 0 < get_or ks (i + suc d) 0 = r (i + d) (i + suc d) (omega arith) h in
@@ -122,7 +122,7 @@ gap ks r i j l h =
 module _ (ks : List ℕ) (x n f z : ℕ) (r : Rising ks) (en : length ks ≡ n) (some : 1 ≤ n) (ef : f ≡ get_or ks 0 0) (ez : z ≡ get_or ks (n - 1) 0) where
   -- no key is below x
   pub rank_first : x ≤ f → 0 ≡ rank_in ks x
-  rank_first h = rank_is ks x 0 (record { within = omega arith; below = λ j a. absurd (not_suc_le_zero a); next = λ a. omega arith })
+  rank_first h = rank_is ks x 0 (record { within = omega arith; below = λ j a. absurd (not-suc-le-zero a); next = λ a. omega arith })
 
   -- all keys are
   pub rank_last : z < x → n ≡ rank_in ks x
@@ -158,16 +158,16 @@ module _ (ks : List ℕ) (x n f z : ℕ) (r : Rising ks) (en : length ks ≡ n) 
 
 -- row m of n rows, each w words wide, is within them
 pub row_within : (m n w : ℕ) → m < n → m * w + w ≤ n * w
-row_within m n w h = let g : suc m * w ≤ n * w = mul_le_mul_right w h in omega (arith, suc_mul m w)
+row_within m n w h = let g : suc m * w ≤ n * w = mul-le-mul_right w h in omega (arith, suc-mul m w)
 
 -- the rows before row i, and those from it on. m is n, the count that the code reads
 pub rows_cut : (i m n w : ℕ) → m ≡ n → i ≤ n → i * w + (m - i) * w ≡ n * w
-rows_cut i m n w e h = let s : i + (m - i) ≡ n = omega arith in sym (add_mul i (m - i) w) ∙ ap (λ (k : ℕ). k * w) s
+rows_cut i m n w e h = let s : i + (m - i) ≡ n = omega arith in sym (add-mul i (m - i) w) ∙ ap (λ (k : ℕ). k * w) s
 
 -- the rows before row i, row i, and those behind it
 pub row_cut : (i m n w : ℕ) → m ≡ n → i < n → (i * w + w) + (m - (i + 1)) * w ≡ n * w
-row_cut i m n w e h = ap (λ (k : ℕ). k + (m - (i + 1)) * w) (sym (suc_mul i w) ∙ ap (λ (k : ℕ). k * w) (sym (add_one i))) ∙ rows_cut (i + 1) m n w e (omega arith)
+row_cut i m n w e h = ap (λ (k : ℕ). k + (m - (i + 1)) * w) (sym (suc-mul i w) ∙ ap (λ (k : ℕ). k * w) (sym (add-one i))) ∙ rows_cut (i + 1) m n w e (omega arith)
 
 -- rows that have words are not more than their words
 pub rows_few : (n w : ℕ) → 1 ≤ w → n ≤ n * w
-rows_few n w h = let m : n * 1 ≤ n * w = mul_le_mul_left n h in omega arith
+rows_few n w h = let m : n * 1 ≤ n * w = mul-le-mul_left n h in omega arith

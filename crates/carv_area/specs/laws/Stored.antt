@@ -89,11 +89,11 @@ module _ {A : Type 0} (fields : A → List ℕ) (w : ℕ) (wide : (a : A) → le
   keys_are l xs h =
       let n = length_keys w l in
       let c : get_or l 0 0 ≡ length xs = h.count in
-      let m : length (map key xs) ≡ length xs = length_map xs key in
+      let m : length (map key xs) ≡ length xs = length-map xs key in
       ext_get_or 0 (keys w l) (map key xs) (omega arith)
       (λ i a.
       let b : i < length xs = omega arith in
-      get_or_keys w l i a ∙ holds_word fields w wide l xs h i 0 d b some ∙ first (get_or xs i d) ∙ sym (get_or_map key xs i d) ∙ get_d_any (map key xs) i (key d) 0 (omega arith))
+      get_or_keys w l i a ∙ holds_word fields w wide l xs h i 0 d b some ∙ first (get_or xs i d) ∙ sym (get_or-map key xs i d) ∙ get_d_any (map key xs) i (key d) 0 (omega arith))
 
   -- what `find` asks
   pub keyed : (t : List ℕ) (xs : List A) → Stored fields w t xs → Rising (map key xs) → Keyed w t
@@ -107,13 +107,13 @@ wide_one x = refl
 
 -- the numbers of the queue in the words l are its keys
 pub queue_is : (l q : List ℕ) → Holds one 1 l q → keys 1 l ≡ q
-queue_is l q h = keys_are one 1 wide_one (λ x. x) (λ x. refl) 0 (omega arith) l q h ∙ map_id q
+queue_is l q h = keys_are one 1 wide_one (λ x. x) (λ x. refl) 0 (omega arith) l q h ∙ map-id q
 
 -- `push` and `pull`
 module _ (t t' q : List ℕ) (h : Queue t q) where
   -- a number is put behind the others
   pub queue_push : (v n : ℕ) (l : List ℕ) → n ≡ get_or (words t) 0 0 → (n + 1) * 8 + 8 ≤ length t → l ≡ set (words t) (n + 1) v → words t' ≡ set l 0 (n + 1) → Queue t' (q ++ (v ∷ []))
-  queue_push v n l en a p r = stored_append one 1 wide_one t t' q h v n l en (rw mul_one (omega arith)) (rw mul_one p) r
+  queue_push v n l en a p r = stored_append one 1 wide_one t t' q h v n l en (rw mul-one (omega arith)) (rw mul-one p) r
 
   -- a number is taken out
   pub queue_pull : (i : ℕ) → i < length q → words t' ≡ cut_row 1 i (get_or (words t) 0 0) (words t) → Queue t' (remove_at q i)
@@ -121,4 +121,4 @@ module _ (t t' q : List ℕ) (h : Queue t q) where
 
 -- the number at place i of the words of a table of numbers
 pub queue_at : (l : List ℕ) (i : ℕ) → i < length (keys 1 l) → get_or l (i + 1) 0 ≡ get_or (keys 1 l) i 0
-queue_at l i h = sym (get_or_keys 1 l i h ∙ ap (λ (k : ℕ). get_or l (k + 1) 0) (mul_one i))
+queue_at l i h = sym (get_or_keys 1 l i h ∙ ap (λ (k : ℕ). get_or l (k + 1) 0) (mul-one i))

@@ -44,9 +44,9 @@ module _ {A : Type 0} where
       let w : ℕ → A → ℕ = λ j d. cond (eqb p j) (u j d) 0 in
       let rest : total w (erase p m) ≡ 0 = Table.total_zero w (erase p m) (Table.all_at (λ j d. w j d ≡ 0) (erase p m) l n (Table.rising_erase m l n p up)
       λ j d k. test (eqb p j)
-      (λ a. let q = eqb_true p j a in let gone = Table.at_erase m l n p up in let z : ◌≡◌ {A = ℕ} 0 1 = cc in absurd (omega arith))
+      (λ a. let q = eqb-true p j a in let gone = Table.at_erase m l n p up in let z : ◌≡◌ {A = ℕ} 0 1 = cc in absurd (omega arith))
       (λ a. rw a)) in
-      let here : w p y ≡ u p y = rw (eq_eqb p p refl) in
+      let here : w p y ≡ u p y = rw (eq-eqb p p refl) in
       omega (arith, Table.total_erase w m p y h)
 
   -- two sums in either order
@@ -74,7 +74,7 @@ total_same_at {A} {B} w v (x ∷ m) n l p l' p' up up' each = go (λ k. total_sa
     rest_none = Table.at_below m (suc x.id) p x.id up.1 (omega arith)
 
     here : weight_of w x.id (at (x ∷ m) x.id) ≡ w x.id x.it
-    here = rw (eq_eqb x.id x.id refl)
+    here = rw (eq-eqb x.id x.id refl)
 
     go : ((k : List (Row B)) → Rising l' p' k → ((i : ℕ) → weight_of w i (at m i) ≡ weight_of v i (at k i)) → total w m ≡ total v k)
         → (o : Option B) → at n x.id ≡ o → total w (x ∷ m) ≡ total v n
@@ -83,7 +83,7 @@ total_same_at {A} {B} w v (x ∷ m) n l p l' p' up up' each = go (λ k. total_sa
         omega (
           arith,
           on n up' λ i. test (eqb x.id i)
-              (λ a. let e = eqb_true x.id i a in rw (← e) (ap (weight_of w x.id) rest_none ∙ sym (ap (weight_of v x.id) q)))
+              (λ a. let e = eqb-true x.id i a in rw (← e) (ap (weight_of w x.id) rest_none ∙ sym (ap (weight_of v x.id) q)))
               (λ a. rw a at (each i)),
         )
     go on (some b) q =
@@ -92,6 +92,6 @@ total_same_at {A} {B} w v (x ∷ m) n l p l' p' up up' each = go (λ k. total_sa
           arith,
           Table.total_erase v n x.id b q,
           on (erase x.id n) (Table.rising_erase n l' p' x.id up') λ i. test (eqb x.id i)
-              (λ a. let e = eqb_true x.id i a in rw (← e) (ap (weight_of w x.id) rest_none ∙ sym (ap (weight_of v x.id) (Table.at_erase n l' p' x.id up'))))
-              (λ a. (rw a at (each i)) ∙ sym (ap (weight_of v i) (Table.at_erase_other n x.id i (eqb_false x.id i a)))),
+              (λ a. let e = eqb-true x.id i a in rw (← e) (ap (weight_of w x.id) rest_none ∙ sym (ap (weight_of v x.id) (Table.at_erase n l' p' x.id up'))))
+              (λ a. (rw a at (each i)) ∙ sym (ap (weight_of v i) (Table.at_erase_other n x.id i (eqb-false x.id i a)))),
         )

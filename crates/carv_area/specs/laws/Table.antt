@@ -21,21 +21,21 @@ module _ {A : Type 0} where
   at_alter [] i f a h = cc
   at_alter (r ∷ m) i f a h =
       test (eqb r.id i)
-      (λ e. let h' : some r.it ≡ some a = rw e at h in rw (e, eq_eqb i i refl) cc)
+      (λ e. let h' : some r.it ≡ some a = rw e at h in rw (e, eq-eqb i i refl) cc)
       (λ e. rw (e, e) (at_alter m i f a (rw e at h)))
 
   pub at_alter_other : (m : List (Row A)) (i j : ℕ) (f : A → A) → (i ≡ j → ⊥) → at (alter i f m) j ≡ at m j
   at_alter_other [] i j f h = refl
   at_alter_other (r ∷ m) i j f h =
       test (eqb r.id i)
-      (λ e. rw (e, ne_eqb i j h, ne_eqb r.id j (λ q. h (sym (eqb_true r.id i e) ∙ q))))
+      (λ e. rw (e, ne_eqb i j h, ne_eqb r.id j (λ q. h (sym (eqb-true r.id i e) ∙ q))))
       (λ e. rw e (ap (λ (o : Option A). cond (eqb r.id j) (some r.it) o) (at_alter_other m i j f h)))
 
   -- what an alteration leaves is read as before, under any id
   pub at_alter_same {ℓ} : {B : Type ℓ} (h : Option A → B) (i : ℕ) (f : A → A) → ((a : A) → h (some (f a)) ≡ h (some a)) → (m : List (Row A)) (j : ℕ) → h (at (alter i f m) j) ≡ h (at m j)
   at_alter_same h i f k [] j = refl
   at_alter_same h i f k (r ∷ m) j = test (eqb r.id i)
-      (λ e. rw (e, eqb_true r.id i e) (test (eqb i j) (λ d. rw d (k r.it)) (λ d. rw d)))
+      (λ e. rw (e, eqb-true r.id i e) (test (eqb i j) (λ d. rw d (k r.it)) (λ d. rw d)))
       (λ e. rw e (test (eqb r.id j) (λ d. rw d) (λ d. rw d (at_alter_same h i f k m j))))
 
   -- what stands under i decides what an alteration does
@@ -48,37 +48,37 @@ module _ {A : Type 0} where
   pub alter_alter : (m : List (Row A)) (i : ℕ) (f g : A → A) → alter i g (alter i f m) ≡ alter i (λ a. g (f a)) m
   alter_alter [] i f g = refl
   alter_alter (r ∷ m) i f g = test (eqb r.id i)
-      (λ e. rw (e, eq_eqb i i refl))
+      (λ e. rw (e, eq-eqb i i refl))
       (λ e. rw (e, e) (ap (◌∷◌ r) (alter_alter m i f g)))
 
   pub alter_id : (m : List (Row A)) (i : ℕ) → alter i (λ a. a) m ≡ m
   alter_id [] i = refl
   alter_id (r ∷ m) i = test (eqb r.id i)
-      (λ e. rw (e, ← eqb_true r.id i e))
+      (λ e. rw (e, ← eqb-true r.id i e))
       (λ e. rw e (ap (◌∷◌ r) (alter_id m i)))
 
   -- alterations that commute under one id commute
   pub alter_swap : (m : List (Row A)) (i j : ℕ) (f g : A → A) → ((a : A) → f (g a) ≡ g (f a)) → alter i f (alter j g m) ≡ alter j g (alter i f m)
   alter_swap [] i j f g h = refl
   alter_swap (r ∷ m) i j f g h = test (eqb r.id i)
-      (λ e. let q = eqb_true r.id i e in test (eqb r.id j)
-      (λ d. let w = eqb_true r.id j d in rw (e, d, ← q, ← w, eq_eqb r.id r.id refl) (rw h))
+      (λ e. let q = eqb-true r.id i e in test (eqb r.id j)
+      (λ d. let w = eqb-true r.id j d in rw (e, d, ← q, ← w, eq-eqb r.id r.id refl) (rw h))
       (λ d. rw (e, d, e, rw q at d)))
       (λ e. test (eqb r.id j)
-      (λ d. let w = eqb_true r.id j d in rw (e, d, rw w at e))
+      (λ d. let w = eqb-true r.id j d in rw (e, d, rw w at e))
       (λ d. rw (e, d, e) (ap (◌∷◌ r) (alter_swap m i j f g h))))
 
   -- an alteration and the removal of another id commute
   pub erase_alter : (m : List (Row A)) (i p : ℕ) (f : A → A) → (i ≡ p → ⊥) → erase i (alter p f m) ≡ alter p f (erase i m)
   erase_alter [] i p f h = refl
   erase_alter (r ∷ m) i p f h = test (eqb r.id i)
-      (λ e. rw (ne_eqb r.id p (λ q. h (sym (eqb_true r.id i e) ∙ q)), e))
+      (λ e. rw (ne_eqb r.id p (λ q. h (sym (eqb-true r.id i e) ∙ q)), e))
       (λ e. test (eqb r.id p)
       (λ d. rw (e, d, ne_eqb p i (λ q. h (sym q))))
       (λ d. rw (e, d, e) (ap (◌∷◌ r) (erase_alter m i p f h))))
 
   pub at_snoc : (m : List (Row A)) (i j : ℕ) (a : A) → at m i ≡ none → at (m ++ (record { id = i; it = a } ∷ [])) i ≡ some a
-  at_snoc [] i j a h = rw (eq_eqb i i refl)
+  at_snoc [] i j a h = rw (eq-eqb i i refl)
   at_snoc (r ∷ m) i j a h =
       test (eqb r.id i)
       (λ e. let h' : some r.it ≡ none = rw e at h in cc)
@@ -92,7 +92,7 @@ module _ {A : Type 0} where
   at_erase_other [] i j h = refl
   at_erase_other (r ∷ m) i j h =
       test (eqb r.id i)
-      (λ e. rw (e, ne_eqb r.id j (λ q. h (sym (eqb_true r.id i e) ∙ q))))
+      (λ e. rw (e, ne_eqb r.id j (λ q. h (sym (eqb-true r.id i e) ∙ q))))
       (λ e. rw e (ap (λ (o : Option A). cond (eqb r.id j) (some r.it) o) (at_erase_other m i j h)))
 
   pub at_below : (m : List (Row A)) (l n i : ℕ) → Rising l n m → i < l → at m i ≡ none
@@ -115,7 +115,7 @@ module _ {A : Type 0} where
   at_erase [] l n i u = refl
   at_erase (r ∷ m) l n i u =
       test (eqb r.id i)
-      (λ e. rw e (at_below m (suc r.id) n i u.1 (omega (arith, eqb_true r.id i e))))
+      (λ e. rw e (at_below m (suc r.id) n i u.1 (omega (arith, eqb-true r.id i e))))
       (λ e. rw (e, e) (at_erase m (suc r.id) n i u.1))
 
   pub rising_weaken : (m : List (Row A)) (k l n : ℕ) → k ≤ l → Rising l n m → Rising k n m
@@ -126,7 +126,7 @@ module _ {A : Type 0} where
   rising_alter [] l n i f u = u
   rising_alter (r ∷ m) l n i f u =
       test (eqb r.id i)
-      (λ e. rw e (let q = eqb_true r.id i e in rw q at u))
+      (λ e. rw e (let q = eqb-true r.id i e in rw q at u))
       (λ e. rw e (u.0, rising_alter m (suc r.id) n i f u.1))
 
   pub rising_erase : (m : List (Row A)) (l n i : ℕ) → Rising l n m → Rising l n (erase i m)
@@ -145,7 +145,7 @@ module _ {A : Type 0} where
   total_alter w [] i f a h = let z : ◌≡◌ {A = ℕ} 0 1 = cc in omega arith
   total_alter w (r ∷ m) i f a h =
       test (eqb r.id i)
-      (λ e. let q = eqb_true r.id i e in let h' : some r.it ≡ some a = rw e at h in
+      (λ e. let q = eqb-true r.id i e in let h' : some r.it ≡ some a = rw e at h in
       let x : r.it ≡ a = cc in rw (e, q, x) (omega arith))
       (λ e. rw e (let ih = total_alter w m i f a (rw e at h) in omega arith))
 
@@ -154,7 +154,7 @@ module _ {A : Type 0} where
   total_same w [] i f h = refl
   total_same w (r ∷ m) i f h =
       test (eqb r.id i)
-      (λ e. let q = eqb_true r.id i e in rw (e, q) (omega (arith, h r.it)))
+      (λ e. let q = eqb-true r.id i e in rw (e, q) (omega (arith, h r.it)))
       (λ e. rw e (omega (arith, total_same w m i f h)))
 
   pub total_erase : (w : ℕ → A → ℕ) (m : List (Row A)) (i : ℕ) (a : A) → at m i ≡ some a
@@ -162,7 +162,7 @@ module _ {A : Type 0} where
   total_erase w [] i a h = let z : ◌≡◌ {A = ℕ} 0 1 = cc in omega arith
   total_erase w (r ∷ m) i a h =
       test (eqb r.id i)
-      (λ e. let q = eqb_true r.id i e in let h' : some r.it ≡ some a = rw e at h in
+      (λ e. let q = eqb-true r.id i e in let h' : some r.it ≡ some a = rw e at h in
       let x : r.it ≡ a = cc in rw (e, q, x) (omega arith))
       (λ e. rw e (let ih = total_erase w m i a (rw e at h) in omega arith))
 
@@ -187,9 +187,9 @@ module _ {A : Type 0} where
       → ((i : ℕ) (a : A) → at m i ≡ some a → P i a) → All P m
   all_at P [] l n u h = tt
   all_at P (r ∷ m) l n u h = (
-    h r.id r.it (rw (eq_eqb r.id r.id refl)),
+    h r.id r.it (rw (eq-eqb r.id r.id refl)),
     all_at P m (suc r.id) n u.1 (λ i a g. test (eqb r.id i)
-        (λ e. let q = eqb_true r.id i e in
+        (λ e. let q = eqb-true r.id i e in
         let z = at_below m (suc r.id) n i u.1 (omega arith) in
         let b : ◌≡◌ {A = ℕ} 0 1 = cc in absurd (omega arith))
         (λ e. h i a (rw e g))),
@@ -198,7 +198,7 @@ module _ {A : Type 0} where
   pub at_all : (P : ℕ → A → Type 0) (m : List (Row A)) → All P m → (i : ℕ) (a : A) → at m i ≡ some a → P i a
   at_all P [] h i a g = let b : ◌≡◌ {A = ℕ} 0 1 = cc in absurd (omega arith)
   at_all P (r ∷ m) h i a g = test (eqb r.id i)
-      (λ e. let q = eqb_true r.id i e in let g' : some r.it ≡ some a = rw e at g in
+      (λ e. let q = eqb-true r.id i e in let g' : some r.it ≡ some a = rw e at g in
       let x : r.it ≡ a = cc in rw (← q, ← x) h.0)
       (λ e. at_all P m h.1 i a (rw e at g))
 
@@ -211,28 +211,28 @@ module _ {A : Type 0} where
   total_at w m i a h = omega (arith, total_erase w m i a h)
 
   pub at_put : (m : List (Row A)) (i : ℕ) (a : A) → at (put i a m) i ≡ some a
-  at_put [] i a = rw (eq_eqb i i refl)
+  at_put [] i a = rw (eq-eqb i i refl)
   at_put (r ∷ m) i a = test (eqb r.id i)
-      (λ e. rw (e, eq_eqb i i refl))
-      (λ e. rw e (test (ltb i r.id) (λ f. rw (f, eq_eqb i i refl)) (λ f. rw (f, e) (at_put m i a))))
+      (λ e. rw (e, eq-eqb i i refl))
+      (λ e. rw e (test (ltb i r.id) (λ f. rw (f, eq-eqb i i refl)) (λ f. rw (f, e) (at_put m i a))))
 
   pub at_put_other : (m : List (Row A)) (i j : ℕ) (a : A) → (i ≡ j → ⊥) → at (put i a m) j ≡ at m j
   at_put_other [] i j a h = rw (ne_eqb i j h)
   at_put_other (r ∷ m) i j a h = test (eqb r.id i)
-      (λ e. rw (e, ne_eqb i j h, ne_eqb r.id j (λ q. h (sym (eqb_true r.id i e) ∙ q))))
+      (λ e. rw (e, ne_eqb i j h, ne_eqb r.id j (λ q. h (sym (eqb-true r.id i e) ∙ q))))
       (λ e. rw e (test (ltb i r.id) (λ f. rw (f, ne_eqb i j h))
       (λ f. rw f (ap (λ (o : Option A). cond (eqb r.id j) (some r.it) o) (at_put_other m i j a h)))))
 
   pub rising_put : (m : List (Row A)) (l n i : ℕ) (a : A) → l ≤ i → i < n → Rising l n m → Rising l n (put i a m)
   rising_put [] l n i a h k u = (h, k)
   rising_put (r ∷ m) l n i a h k u = test (eqb r.id i)
-      (λ e. rw e (let q = eqb_true r.id i e in rw q at u))
+      (λ e. rw e (let q = eqb-true r.id i e in rw q at u))
       (λ e. rw e (test (ltb i r.id)
-      (λ f. rw f (h, (ltb_true i r.id f, u.1)))
+      (λ f. rw f (h, (ltb-true i r.id f, u.1)))
       (λ f. rw f (
         u.0,
         rising_put m (suc r.id) n i a
-            (let d = eqb_false r.id i e in let g = ltb_false i r.id f in above r.id i g d) k u.1,
+            (let d = eqb-false r.id i e in let g = ltb-false i r.id f in above r.id i g d) k u.1,
       ))))
     where
       above : (x y : ℕ) → x ≤ y → (x ≡ y → ⊥) → x < y
@@ -265,13 +265,13 @@ module _ {A : Type 0} where
   pick_scan p zero (r ∷ m) l u = absurd (omega (arith, rising_le m (suc r.id) (l + zero) u.1))
   pick_scan p (suc n) [] l u = pick_scan p n [] (suc l) (omega arith)
   pick_scan p (suc n) (r ∷ m) l u = test (eqb r.id l)
-      (λ e. let q = eqb_true r.id l e in
-      let ih = pick_scan p n m (suc l) (rw (suc_add l n, ← add_suc l n) (rw q at u.1)) in
+      (λ e. let q = eqb-true r.id l e in
+      let ih = pick_scan p n m (suc l) (rw (suc-add l n, ← add-suc l n) (rw q at u.1)) in
       let x = ih ∙ scan_same (λ i. passes p (at m i)) (λ i. passes p (at (r ∷ m) i)) (suc l) n
       (λ i h. rw (ne_eqb r.id i (λ z. omega arith))) in
       rw e cc)
-      (λ e. let d = eqb_false r.id l e in
-      let ih = pick_scan p n (r ∷ m) (suc l) (above r.id l u.0 d, rw (suc_add l n, ← add_suc l n) u.1) in
+      (λ e. let d = eqb-false r.id l e in
+      let ih = pick_scan p n (r ∷ m) (suc l) (above r.id l u.0 d, rw (suc-add l n, ← add-suc l n) u.1) in
       rw (e, at_below m (suc r.id) (l + suc n) l u.1 (omega arith)) ih)
     where
       above : (x y : ℕ) → y ≤ x → (x ≡ y → ⊥) → suc y ≤ x

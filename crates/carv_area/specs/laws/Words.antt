@@ -25,8 +25,8 @@ value_shift : (n : ℕ) (l m : List ℕ) (o p : ℕ) → ((i : ℕ) → i < n �
 unfolding value
 value_shift zero l m o p h = refl
 value_shift (suc n) l m o p h =
-    let here : get_or l o 0 ≡ get_or m p 0 = simp add_zero at (h zero (omega arith)) in
-    let rest = value_shift n l m (suc o) (suc p) (λ i a. rw (suc_add, suc_add, ← add_suc, ← add_suc) (h (suc i) (omega arith))) in
+    let here : get_or l o 0 ≡ get_or m p 0 = simp add-zero at (h zero (omega arith)) in
+    let rest = value_shift n l m (suc o) (suc p) (λ i a. rw (suc-add, suc-add, ← add-suc, ← add-suc) (h (suc i) (omega arith))) in
     omega arith
 
 -- the same, at one place
@@ -44,10 +44,10 @@ value_bytes : (n v : ℕ) (l : List ℕ) (o : ℕ) → v < 256 ^ n → ((i : ℕ
 unfolding value bytes_of
 value_bytes zero v l o f h = omega arith
 value_bytes (suc n) v l o f h =
-    let g = rw pow_suc at f in
+    let g = rw pow-suc at f in
     let q : v / 256 < 256 ^ n = omega arith in
-    let rest = value_bytes n (v / 256) l (suc o) q (λ i k. rw (suc_add, ← add_suc) (h (suc i) (omega arith))) in
-    let here : get_or l o 0 ≡ v % 256 = rw add_zero at (h zero (omega arith)) in
+    let rest = value_bytes n (v / 256) l (suc o) q (λ i k. rw (suc-add, ← add-suc) (h (suc i) (omega arith))) in
+    let here : get_or l o 0 ≡ v % 256 = rw add-zero at (h zero (omega arith)) in
     omega arith
 
 -- bytes below 256 are determined by their value
@@ -59,12 +59,12 @@ value_inj (suc n) l m o bl bm e i a b =
     ⊎_elim
     (λ (p : o ≡ i). subst (λ (j : ℕ). get_or l j 0 ≡ get_or m j 0) p (omega (arith, bl o, bm o)))
     (λ (p : o < i). value_inj n l m (suc o) bl bm (omega (arith, bl o, bm o)) i p (omega arith))
-    (eq_or_lt_of_le a)
+    (eq-or-lt_of_le a)
 
 -- a store keeps the number of bytes
 pub length_set_word : (l : List ℕ) (k v : ℕ) → length (set_word l k v) ≡ length l
 unfolding set_word
-length_set_word l k v = length_sets l (k * 8) (bytes_of 8 v)
+length_set_word l k v = length-sets l (k * 8) (bytes_of 8 v)
 
 -- the word that is stored
 pub word_same : (l : List ℕ) (k v : ℕ) → k * 8 + 8 ≤ length l → v < 2 ^ 64 → word (set_word l k v) k ≡ v
@@ -106,11 +106,11 @@ pub words_set_word : (l : List ℕ) (k v : ℕ) → k < length (words l) → v <
 words_set_word l k v h f =
     let n = length_words l in
     let m : length (words (set_word l k v)) ≡ length (words l) = length_words (set_word l k v) ∙ ap (λ (x : ℕ). x / 8) (length_set_word l k v) ∙ sym n in
-    ext_get_or 0 (words (set_word l k v)) (set (words l) k v) (m ∙ sym (length_set (words l) k v))
+    ext_get_or 0 (words (set_word l k v)) (set (words l) k v) (m ∙ sym (length-set (words l) k v))
     (λ i b. get_d_words (set_word l k v) i b ∙
     ⊎_elim
-    (λ (e : i ≡ k). rw e (word_same l k v (omega arith) f ∙ sym (get_or_set_same (words l) k v 0 h)))
-    (λ (ne : i ≢ k). word_other l k i v ne ∙ sym (get_d_words l i (omega arith)) ∙ sym (get_or_set_other (words l) k i v 0 ne))
+    (λ (e : i ≡ k). rw e (word_same l k v (omega arith) f ∙ sym (get_or-set_same (words l) k v 0 h)))
+    (λ (ne : i ≢ k). word_other l k i v ne ∙ sym (get_d_words l i (omega arith)) ∙ sym (get_or-set_other (words l) k i v 0 ne))
     (same_or_not i k))
 
 -- ---- the bytes behind the last whole word
@@ -118,12 +118,12 @@ words_set_word l k v h f =
 -- their number
 pub length_rest : (l : List ℕ) → length (rest l) ≡ length l % 8
 unfolding rest
-length_rest l = length_drop (length l / 8 * 8) l ∙ omega arith
+length_rest l = length-drop (length l / 8 * 8) l ∙ omega arith
 
 -- each of them
 get_or_rest : (l : List ℕ) (i : ℕ) → get_or (rest l) i 0 ≡ get_or l (length l / 8 * 8 + i) 0
 unfolding rest
-get_or_rest l i = get_or_drop (length l / 8 * 8) l i 0
+get_or_rest l i = get_or-drop (length l / 8 * 8) l i 0
 
 -- a store of a word leaves them
 pub rest_set_word : (l : List ℕ) (k v : ℕ) → k * 8 + 8 ≤ length l → rest (set_word l k v) ≡ rest l
@@ -140,12 +140,12 @@ rest_set_word l k v h =
 pub words_miss : (l : List ℕ) (i x : ℕ) → length l / 8 * 8 ≤ i → words (set l i x) ≡ words l
 unfolding word
 words_miss l i x h =
-    let n = length_words (set l i x) ∙ ap (λ (m : ℕ). m / 8) (length_set l i x) in
+    let n = length_words (set l i x) ∙ ap (λ (m : ℕ). m / 8) (length-set l i x) in
     ext_get_or 0 (words (set l i x)) (words l) (n ∙ sym (length_words l))
     (λ k b.
     let a : k < length l / 8 = omega arith in
     get_d_words (set l i x) k b
-    ∙ value_ext 8 (set l i x) l (k * 8) (λ j c d. get_or_set_other l i j x 0 (λ e. omega arith))
+    ∙ value_ext 8 (set l i x) l (k * 8) (λ j c d. get_or-set_other l i j x 0 (λ e. omega arith))
     ∙ sym (get_d_words l k (omega (arith, length_words l))))
 
 module _ (l m : List ℕ) (bl : (i : ℕ) → get_or l i 0 < 256) (bm : (i : ℕ) → get_or m i 0 < 256) (w : words l ≡ words m) where
@@ -211,7 +211,7 @@ get_of l k v h e = e ∙ le8_is l k ∙ sym (get_d_words l k (omega (arith, leng
 value_below : (n : ℕ) (l : List ℕ) (o : ℕ) → ((i : ℕ) → get_or l i 0 < 256) → value n l o < 256 ^ n
 unfolding value
 value_below zero l o b = omega arith
-value_below (suc n) l o b = rw pow_suc (omega (arith, b o, value_below n l (suc o) b))
+value_below (suc n) l o b = rw pow-suc (omega (arith, b o, value_below n l (suc o) b))
 
 -- and words of 64 bits
 pub word_below : (l : List ℕ) (k : ℕ) → ((i : ℕ) → get_or l i 0 < 256) → get_or (words l) k 0 < 2 ^ 64
@@ -219,7 +219,7 @@ unfolding word
 word_below l k b =
     ⊎_elim
     (λ (h : k < length (words l)). rw (get_d_words l k h) (value_below 8 l (k * 8) b))
-    (λ (h : length (words l) ≤ k). rw (get_or_eq_default (words l) 0 h) (omega arith))
+    (λ (h : length (words l) ≤ k). rw (get_or-eq_default (words l) 0 h) (omega arith))
     (lt_or_ge k (length (words l)))
 
 -- ---- parts: a cut between two words of the bytes is a cut of the list of words
@@ -229,8 +229,8 @@ module _ (n : ℕ) (p q : List ℕ) (e : length p ≡ n * 8) where
   in_front : (k : ℕ) → k < n → k < length (words p) → word (p ++ q) k ≡ get_or (words p ++ words q) k 0
   unfolding word
   in_front k b c =
-      value_ext 8 (p ++ q) p (k * 8) (λ i x y. get_or_append p q 0 i (omega arith))
-      ∙ sym (get_d_words p k c) ∙ sym (get_or_append (words p) (words q) 0 k c)
+      value_ext 8 (p ++ q) p (k * 8) (λ i x y. get_or-append p q 0 i (omega arith))
+      ∙ sym (get_d_words p k c) ∙ sym (get_or-append (words p) (words q) 0 k c)
 
   -- a word of the second
   behind : (k : ℕ) → n ≤ k → k - n < length (words q) → word (p ++ q) k ≡ get_or (words p ++ words q) k 0
@@ -240,9 +240,9 @@ module _ (n : ℕ) (p q : List ℕ) (e : length p ≡ n * 8) where
       value_shift 8 (p ++ q) q (k * 8) ((k - n) * 8)
       (λ i x.
       let g : k * 8 + i ≡ length p + ((k - n) * 8 + i) = omega arith in
-      ap (λ (j : ℕ). get_or (p ++ q) j 0) g ∙ get_or_append_add p q ((k - n) * 8 + i) 0)
+      ap (λ (j : ℕ). get_or (p ++ q) j 0) g ∙ get_or-append-add p q ((k - n) * 8 + i) 0)
       ∙ sym (get_d_words q (k - n) c)
-      ∙ sym (get_or_append_add (words p) (words q) (k - n) 0) ∙ ap (λ (j : ℕ). get_or (words p ++ words q) j 0) f
+      ∙ sym (get_or-append-add (words p) (words q) (k - n) 0) ∙ ap (λ (j : ℕ). get_or (words p ++ words q) j 0) f
 
   -- the words of two lists of bytes, one behind the other
   pub words_append : words (p ++ q) ≡ words p ++ words q
@@ -250,19 +250,19 @@ module _ (n : ℕ) (p q : List ℕ) (e : length p ≡ n * 8) where
       let lp = length_words p in
       let lq = length_words q in
       let lpq = length_words (p ++ q) in
-      let la : length (p ++ q) ≡ length p + length q = length_append p q in
-      let lw : length (words p ++ words q) ≡ length (words p) + length (words q) = length_append (words p) (words q) in
+      let la : length (p ++ q) ≡ length p + length q = length-append p q in
+      let lw : length (words p ++ words q) ≡ length (words p) + length (words q) = length-append (words p) (words q) in
       ext_get_or 0 (words (p ++ q)) (words p ++ words q) (omega arith)
       (λ k a. get_d_words (p ++ q) k a ∙ ⊎_elim (λ (b : k < n). in_front k b (omega arith)) (λ (b : n ≤ k). behind k b (omega arith)) (lt_or_ge k n))
 
 module _ (l : List ℕ) (f : ℕ) (h : f * 8 ≤ length l) where
   -- the words, cut
   cut : words l ≡ words (take (f * 8) l) ++ words (drop (f * 8) l)
-  cut = ap words (sym (take_append_drop (f * 8) l)) ∙ words_append f (take (f * 8) l) (drop (f * 8) l) (length_take_le (f * 8) l h)
+  cut = ap words (sym (take-append-drop (f * 8) l)) ∙ words_append f (take (f * 8) l) (drop (f * 8) l) (length-take-le (f * 8) l h)
 
   -- how many stand before the cut
   front : length (words (take (f * 8) l)) ≡ f
-  front = omega (arith, length_words (take (f * 8) l), length_take_le (f * 8) l h)
+  front = omega (arith, length_words (take (f * 8) l), length-take-le (f * 8) l h)
 
   -- the words of the bytes before the cut
   pub words_take : words (take (f * 8) l) ≡ take f (words l)
@@ -275,11 +275,11 @@ module _ (l : List ℕ) (f : ℕ) (h : f * 8 ≤ length l) where
 module _ (l : List ℕ) (f n : ℕ) (h : (f + n) * 8 ≤ length l) where
   -- what a call that is lent the n words from word f on sees
   pub words_part : words (take (n * 8) (drop (f * 8) l)) ≡ take n (drop f (words l))
-  words_part = words_take (drop (f * 8) l) n (rw length_drop (omega arith)) ∙ ap (take n) (words_drop l f (omega arith))
+  words_part = words_take (drop (f * 8) l) n (rw length-drop (omega arith)) ∙ ap (take n) (words_drop l f (omega arith))
 
   -- and what it leaves
   pub words_put : (p : List ℕ) → length p ≡ n * 8
       → words (take (f * 8) l ++ (p ++ drop (n * 8) (drop (f * 8) l))) ≡ take f (words l) ++ (words p ++ drop n (drop f (words l)))
   words_put p e =
-      words_append f (take (f * 8) l) (p ++ drop (n * 8) (drop (f * 8) l)) (length_take_le (f * 8) l (omega arith))
-      ∙ rw (words_append n p (drop (n * 8) (drop (f * 8) l)) e, words_take l f (omega arith), words_drop (drop (f * 8) l) n (rw length_drop (omega arith)), words_drop l f (omega arith))
+      words_append f (take (f * 8) l) (p ++ drop (n * 8) (drop (f * 8) l)) (length-take-le (f * 8) l (omega arith))
+      ∙ rw (words_append n p (drop (n * 8) (drop (f * 8) l)) e, words_take l f (omega arith), words_drop (drop (f * 8) l) n (rw length-drop (omega arith)), words_drop l f (omega arith))

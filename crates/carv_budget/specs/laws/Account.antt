@@ -38,11 +38,11 @@ sound_told {a} p =
     let m : Bool = leb (a.memory_used + a.memory_reserved) a.memory_limit in
     let c : Bool = leb (a.cpu_left + a.cpu_reserved) a.cpu_allowance in
     let s : Bool = leb a.cpu_allowance period in
-    record { memory = leb_true _ _ (first m c (first (m && c) s p)); cpu = leb_true _ _ (second m c (first (m && c) s p)); share = leb_true _ _ (second (m && c) s p) }
+    record { memory = leb-true _ _ (first m c (first (m && c) s p)); cpu = leb-true _ _ (second m c (first (m && c) s p)); share = leb-true _ _ (second (m && c) s p) }
 
 pub sound_shown : {a : Account} → Sound a → sound a ≡ true
 unfolding sound
-sound_shown s = search (both, le_leb)
+sound_shown s = search (both, le-leb)
 
 -- the renewed figures, by cases
 pub renewed_cpu : (b : Bool) (left reserved allowance : ℕ) → left + reserved ≤ allowance → cond b (allowance - reserved) left + reserved ≤ allowance
@@ -82,11 +82,11 @@ pub returnable_told : {a child : Account} → returnable a child ≡ true → Re
 unfolding returnable
 returnable_told {a} {child} p =
     record {
-      no_cpu = eqb_true _ _ (search (first, second, p) depth 8);
-      no_memory = eqb_true _ _ (search (first, second, p) depth 8);
-      no_use = eqb_true _ _ (search (first, second, p) depth 8);
-      cpu = leb_true _ _ (search (first, second, p) depth 8);
-      memory = leb_true _ _ (search (first, second, p) depth 8);
+      no_cpu = eqb-true _ _ (search (first, second, p) depth 8);
+      no_memory = eqb-true _ _ (search (first, second, p) depth 8);
+      no_use = eqb-true _ _ (search (first, second, p) depth 8);
+      cpu = leb-true _ _ (search (first, second, p) depth 8);
+      memory = leb-true _ _ (search (first, second, p) depth 8);
     }
 
 -- Each step keeps question 1's condition where its own question is passed.
@@ -116,7 +116,7 @@ return_sound a child p = let s : Sound a = sound_told p in sound_shown (record {
 
 pub open_account_kept : (cpu memory time : ℕ) → sound (open_account cpu memory time).account ≡ true
 open_account_kept cpu memory time =
-    picks (λ (r : Outcome). sound r.account ≡ true) (leb cpu period) _ _ (λ p. fresh_sound cpu memory time (leb_true cpu period p)) (λ _. fresh_sound 0 0 0 (omega arith))
+    picks (λ (r : Outcome). sound r.account ≡ true) (leb cpu period) _ _ (λ p. fresh_sound cpu memory time (leb-true cpu period p)) (λ _. fresh_sound 0 0 0 (omega arith))
 
 pub refill_kept : (a : Account) (time : ℕ) → sound a ≡ true → sound (refill a time).account ≡ true
 refill_kept a time p =
@@ -131,7 +131,7 @@ charge_cpu_kept a ns time p = rw p (spent_kept (renew a time) ns (renew_sound a 
 
 pub charge_memory_kept : (a : Account) (bytes : ℕ) → sound a ≡ true → sound (charge_memory a bytes).account ≡ true
 charge_memory_kept a bytes p =
-    rw p (picks (λ (r : Outcome). sound r.account ≡ true) (leb bytes (free a)) _ _ (λ q. charge_sound a bytes p (leb_true bytes (free a) q)) (λ _. p))
+    rw p (picks (λ (r : Outcome). sound r.account ≡ true) (leb bytes (free a)) _ _ (λ q. charge_sound a bytes p (leb-true bytes (free a) q)) (λ _. p))
 
 pub release_memory_kept : (a : Account) (bytes : ℕ) → sound a ≡ true → sound (release_memory a bytes).account ≡ true
 release_memory_kept a bytes p =
@@ -147,7 +147,7 @@ unfolding carved
 carved_kept a ns bytes p =
     picks BothSound (leb ns a.cpu_left) _ _
     (λ q. picks BothSound (leb bytes (free a)) _ _
-    (λ r. record { parent = reserve_sound a ns bytes p (leb_true _ _ q) (leb_true _ _ r); child = carved_child_sound a ns bytes p (leb_true _ _ q) })
+    (λ r. record { parent = reserve_sound a ns bytes p (leb-true _ _ q) (leb-true _ _ r); child = carved_child_sound a ns bytes p (leb-true _ _ q) })
     (λ _. record { parent = p; child = fresh_sound 0 0 0 (omega arith) }))
     (λ _. record { parent = p; child = fresh_sound 0 0 0 (omega arith) })
 
@@ -184,9 +184,9 @@ returnable_renewed a child t = refl
 restarted : (a : Account) (t left reserved : ℕ) → due (with_cpu a (t - (t - a.period_start) % period) left reserved) t ≡ false
 unfolding due
 restarted a t left reserved =
-    let h : (t - a.period_start) % period < period = mod_lt (t - a.period_start) (omega arith) in
+    let h : (t - a.period_start) % period < period = mod-lt (t - a.period_start) (omega arith) in
     let start : ℕ = t - (t - a.period_start) % period in
-    not_second (leb start t) (leb period (t - start)) (lt_leb period (t - start) (omega arith))
+    not_second (leb start t) (leb period (t - start)) (lt-leb period (t - start) (omega arith))
 
 pub renewed_not_due : (a : Account) (t : ℕ) → due (renew a t) t ≡ false
 renewed_not_due a t = at (due a t) refl where
@@ -201,7 +201,7 @@ renew_twice a t = sym (renew_not_due (renew a t) t (renewed_not_due a t))
 -- A carve-out followed by its child's return: only the CPU time left is lower, and the next renewal that is due brings it back.
 
 pub carve_return : (a : Account) (ns bytes start : ℕ) → return (reserve a ns bytes) (fresh ns bytes start) ≡ spend a ns
-carve_return a ns bytes start = simp add_sub_cancel
+carve_return a ns bytes start = simp add-sub_cancel
 
 spend_renew : (a : Account) (ns t : ℕ) → due a t ≡ true → renew (spend a ns) t ≡ renew a t
 unfolding renew due

@@ -22,7 +22,7 @@ use Rattle.carv_budget.specs.laws.Refines as refines
 -- Places with and without identities.
 
 at_seen : (t : Places Budget) (i : ℕ) → at (all_seen t) i ≡ seen (at t i)
-at_seen t i = get_or_map seen t i none
+at_seen t i = get_or-map seen t i none
 
 set_seen : (t : Places Budget) (i : ℕ) (x : Option Budget) → set (all_seen t) i (seen x) ≡ all_seen (set t i x)
 set_seen [] i x = refl
@@ -30,7 +30,7 @@ set_seen (y ∷ t) zero x = refl
 set_seen (y ∷ t) (suc i) x = ap (λ (l : Places Account). seen y ∷ l) (set_seen t i x)
 
 add_seen : (t : Places Budget) (b : Budget) → add b.figures (all_seen t) ≡ all_seen (add b t)
-add_seen t b = sym (map_append seen t (some b ∷ []))
+add_seen t b = sym (map-append seen t (some b ∷ []))
 
 -- Soundness, place by place.
 
@@ -283,7 +283,7 @@ module _ (t : Places Budget) where
   carve_out_own i cpu memory time = refl
 
   pub release_child_own : (i child : ℕ) (a : Account) → at t child ≡ some (budget (some i) a) → returns_own (release_child i child) t ≡ true
-  release_child_own i child a h = rw h (eq_eqb i i refl)
+  release_child_own i child a h = rw h (eq-eqb i i refl)
 
   pub release_none_own : (i child : ℕ) → at t child ≡ none → returns_own (release_child i child) t ≡ true
   release_none_own i child h = rw h

@@ -16,7 +16,7 @@ both_pass (c ∷ cs) ds p q = (p.0, both_pass cs ds p.1 q)
 
 pub new_passes : (ids cpu memory now : ℕ) → ids + 1 < 2 ^ 64 → AllPass (new ids cpu period memory now)
 new_passes ids cpu memory now h =
-    picks (λ (x : rust.Result Account). AllPass (if_ok x (next_budget_id ids ∷ []))) (ltb period cpu) _ _ (λ _. tt) (λ _. (lt_ltb (ids + 1) (2 ^ 64) h, tt))
+    picks (λ (x : rust.Result Account). AllPass (if_ok x (next_budget_id ids ∷ []))) (ltb period cpu) _ _ (λ _. tt) (λ _. (lt-ltb (ids + 1) (2 ^ 64) h, tt))
 
 pub refill_passes : (a : Account) (now : ℕ) → sound a ≡ true → AllPass (refill a now)
 unfolding refill
@@ -24,11 +24,11 @@ refill_passes a now p =
     let s : Sound a = sound_told p in
     let elapsed : ℕ = now - a.period_start in
     picks AllPass (ltb now a.period_start) _ _ (λ _. tt) λ b.
-    let started : a.period_start ≤ now = ltb_false now a.period_start b in (
+    let started : a.period_start ≤ now = ltb-false now a.period_start b in (
       started,
       picks AllPass (ltb elapsed period) _ _ (λ _. tt) λ c.
-          let whole : period ≤ elapsed = ltb_false elapsed period c in
-          let rest : elapsed % period < period = mod_lt elapsed (omega arith) in
+          let whole : period ≤ elapsed = ltb-false elapsed period c in
+          let rest : elapsed % period < period = mod-lt elapsed (omega arith) in
           (omega arith, (omega arith, (omega arith, tt))),
     )
 
@@ -36,7 +36,7 @@ pub charge_cpu_passes : (a : Account) (amount now : ℕ) → sound a ≡ true �
 unfolding charge_cpu
 charge_cpu_passes a amount now p =
     both_pass (refill a now) _ (refill_passes a now p)
-    (picks AllPass (ltb (rust.refill a now).self.cpu_left amount) _ _ (λ _. tt) λ b. (ltb_false (rust.refill a now).self.cpu_left amount b, tt))
+    (picks AllPass (ltb (rust.refill a now).self.cpu_left amount) _ _ (λ _. tt) λ b. (ltb-false (rust.refill a now).self.cpu_left amount b, tt))
 
 pub charge_memory_passes : (a : Account) (amount : ℕ) → sound a ≡ true → a.memory_limit < 2 ^ 64 → AllPass (charge_memory a amount)
 unfolding charge_memory
@@ -44,7 +44,7 @@ charge_memory_passes a amount p w =
     let s : Sound a = sound_told p in
     rw (charge_memory_by a amount)
     (picks (λ (c : rust.Call (rust.Result (Unit {0}))). AllPass (if_ok c.result (sum a.memory_used amount ∷ []))) (leb amount (free a)) _ _
-    (λ b. (omega (arith, leb_true amount (free a) b), tt)) (λ _. tt))
+    (λ b. (omega (arith, leb-true amount (free a) b), tt)) (λ _. tt))
 
 -- of any account
 pub release_memory_passes : (a : Account) (amount : ℕ) → AllPass (release_memory a amount)
@@ -52,7 +52,7 @@ unfolding release_memory
 release_memory_passes a amount =
     rw (release_memory_by a amount)
     (picks (λ (c : rust.Call (rust.Result (Unit {0}))). AllPass (if_ok c.result (difference a.memory_used amount ∷ []))) (leb amount a.memory_used) _ _
-    (λ b. (leb_true amount a.memory_used b, tt)) (λ _. tt))
+    (λ b. (leb-true amount a.memory_used b, tt)) (λ _. tt))
 
 pub release_child_passes : (a child : Account) → AllPass (release_child true a child)
 unfolding release_child
@@ -74,7 +74,7 @@ carve_out_passes ids a cpu memory now p w h =
     both_pass (refill a now) _ (refill_passes a now p)
     (rw (carve_out_by a cpu memory now, refill_renews a now)
     (picks behind (leb cpu (renew a now).cpu_left) _ _
-    (λ b. let c = leb_true cpu (renew a now).cpu_left b in
+    (λ b. let c = leb-true cpu (renew a now).cpu_left b in
     picks behind (leb memory (free (renew a now))) _ _
-    (λ d. let m = leb_true memory (free (renew a now)) d in (c, (omega arith, (omega arith, (lt_ltb (ids + 1) (2 ^ 64) h, tt))))) (λ _. tt))
+    (λ d. let m = leb-true memory (free (renew a now)) d in (c, (omega arith, (omega arith, (lt-ltb (ids + 1) (2 ^ 64) h, tt))))) (λ _. tt))
     (λ _. tt)))

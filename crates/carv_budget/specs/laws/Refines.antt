@@ -13,8 +13,8 @@ use Rattle.carv_budget.specs.Rust.{BudgetError, cpu_budget_exceeds_period, cpu_l
 over : (n m : ℕ) → ltb m n ≡ not (leb n m)
 over n m = at (leb n m) refl where
   at : (b : Bool) → leb n m ≡ b → ltb m n ≡ not b
-  at true p = le_ltb m n (leb_true n m p)
-  at false p = lt_ltb m n (leb_false n m p)
+  at true p = le-ltb m n (leb-true n m p)
+  at false p = lt-ltb m n (leb-false n m p)
 
 neither : (a b : Bool) → (not a || not b) ≡ not (a && b)
 neither true b = refl

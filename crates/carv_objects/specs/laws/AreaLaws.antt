@@ -48,7 +48,7 @@ flat_rows x l n h =
     let xs : List (Row Entry) = tab n (row_at (x ∷ l)) in
     let s : length (flat fields (tab n (row_at (x ∷ l)))) ≡ n * 11 =
     length_flat fields 11 wide xs ∙ ap (λ (m : ℕ). m * 11) (length_tab n (row_at (x ∷ l))) in
-    ext_get_or 0 (flat fields xs) (take (n * 11) l) (s ∙ sym (length_take_le (n * 11) l h))
+    ext_get_or 0 (flat fields xs) (take (n * 11) l) (s ∙ sym (length-take-le (n * 11) l h))
     (λ k b.
     let i = k / 11 in
     let c = k % 11 in
@@ -59,8 +59,8 @@ flat_rows x l n h =
     ∙ get_or_flat fields 11 wide xs i c d (rw length_tab below) (omega arith)
     ∙ ap (λ (r : Row Entry). get_or (fields r) c 0) (get_or_tab n (row_at (x ∷ l)) i d below)
     ∙ field (x ∷ l) i c (omega arith)
-    ∙ rw (add_suc (i * 11) c) (ap (λ (j : ℕ). get_or l j 0) (sym q))
-    ∙ sym (get_or_take (n * 11) l k 0 (omega arith)))
+    ∙ rw (add-suc (i * 11) c) (ap (λ (j : ℕ). get_or l j 0) (sym q))
+    ∙ sym (get_or-take (n * 11) l k 0 (omega arith)))
 
 -- words whose rows are followed by zeros are a table
 rows_hold : (l : List ℕ) → get_or l 0 0 * 11 + 1 ≤ length l → all_zero (drop (get_or l 0 0 * 11 + 1) l) ≡ true → Holds fields 11 l (rows_in l)
@@ -70,7 +70,7 @@ rows_hold (n ∷ l) h z =
     let e : n * 11 + 1 ≡ suc (n * 11) = omega arith in
     let d : all_zero (drop (n * 11) l) ≡ true = rw e at z in
     hold fields 11 wide (n ∷ l) (tab n (row_at (n ∷ l))) (length (drop (n * 11) l))
-    (rw (length_tab n (row_at (n ∷ l)), flat_rows n l n (omega arith), ← (all_zero_lem (drop (n * 11) l) d), take_append_drop (n * 11) l))
+    (rw (length_tab n (row_at (n ∷ l)), flat_rows n l n (omega arith), ← (all_zero_lem (drop (n * 11) l) d), take-append-drop (n * 11) l))
 
 -- a table's rows are followed by zeros
 hold_zeros : (l : List ℕ) (xs : List (Row Entry)) → Holds fields 11 l xs → all_zero (drop (get_or l 0 0 * 11 + 1) l) ≡ true
@@ -113,7 +113,7 @@ pub sound_formed : (a : List ℕ) → sound_area a ≡ true → (length a ≡ 45
 unfolding sound_area rows_in
 sound_formed a h =
     let l = words (table a) in
-    let size : length a ≡ 45_072 = eqb_true (length a) 45_072 (first (eqb (length a) 45_072) _ h) in
+    let size : length a ≡ 45_072 = eqb-true (length a) 45_072 (first (eqb (length a) 45_072) _ h) in
     let rest = second (eqb (length a) 45_072) _ h in
     let S = sound_told (decode a) (first (sound (decode a)) _ rest) in
     let few : get_or (words (table a)) 0 0 ≤ 512 = rw length_tab at S.few in
@@ -123,7 +123,7 @@ sound_formed a h =
 pub formed_sound : (a : List ℕ) → length a ≡ 45_072 → Sound (decode a) → Stored fields 11 (table a) (decode a).rows → sound_area a ≡ true
 unfolding sound_area
 formed_sound a size S T =
-    rw (eq_eqb (length a) 45_072 size, sound_shown (decode a) S, hold_zeros (words (table a)) (decode a).rows T.holds)
+    rw (eq-eqb (length a) 45_072 size, sound_shown (decode a) S, hold_zeros (words (table a)) (decode a).rows T.holds)
 
 -- an area of its length whose next id and table are those of the sound registry s
 pub formed_is : (a : List ℕ) (s : Registry) → length a ≡ 45_072 → (decode a).next ≡ s.next → Stored fields 11 (table a) s.rows → Sound s → Is a s

@@ -91,7 +91,7 @@ next_put a p size z n e =
     let fits : 0 + 8 ≤ length a = omega arith in
     let gap : 0 + 8 ≤ 8 = omega arith in
     let w : length (words (part 0 8 a)) ≡ 1 = length_words (part 0 8 a) ∙ ap (λ (x : ℕ). x / 8) (length_head a size) in (
-      ap (λ (l : List ℕ). get_or (words l) 0 0) (part_same 0 8 a p fits z) ∙ ap (λ (l : List ℕ). get_or l 0 0) e ∙ get_or_set_same (words (part 0 8 a)) 0 n 0 (omega arith),
+      ap (λ (l : List ℕ). get_or (words l) 0 0) (part_same 0 8 a p fits z) ∙ ap (λ (l : List ℕ). get_or l 0 0) e ∙ get_or-set_same (words (part 0 8 a)) 0 n 0 (omega arith),
       part_after 0 8 a p fits z 8 45_064 gap,
     )
 
@@ -155,7 +155,7 @@ module _ (r : Registry) (x i : ℕ) (h : Here no_row r.rows x i) where
 
   module _ (e : Entry) (q : e ≡ (get_or r.rows i no_row).it) where
     pub here_budget : e.kind ≡ 6 → BudgetAt r x (At i)
-    here_budget k = (h, eq_eqb (entry r x).kind 6 (ap (λ (z : Entry). z.kind) (here_entry ∙ sym q) ∙ k))
+    here_budget k = (h, eq-eqb (entry r x).kind 6 (ap (λ (z : Entry). z.kind) (here_entry ∙ sym q) ∙ k))
 
     pub here_other : (e.kind ≡ 6 → ⊥) → BudgetAt r x Nothing
     here_other k = ne_eqb (entry r x).kind 6 (λ z. k (ap (λ (y : Entry). y.kind) (q ∙ sym here_entry) ∙ z))
@@ -175,21 +175,21 @@ gone_has r x h = ap found h.is
 
 -- room for one more
 pub room_full : (r : Registry) (n : ℕ) → n ≡ length r.rows → 512 ≤ n → false ≡ (has_place r && has_next r)
-room_full r n en h = sym (not_first (has_place r) (has_next r) (le_ltb (length r.rows) 512 (rw (← en) h)))
+room_full r n en h = sym (not_first (has_place r) (has_next r) (le-ltb (length r.rows) 512 (rw (← en) h)))
 
 pub room_last : (r : Registry) (x : ℕ) → x ≡ r.next → 18_446_744_073_709_551_615 ≤ x → false ≡ (has_place r && has_next r)
-room_last r x ex h = sym (not_second (has_place r) (has_next r) (le_ltb r.next (2 ^ 64 - 1) (rw (← ex) h)))
+room_last r x ex h = sym (not_second (has_place r) (has_next r) (le-ltb r.next (2 ^ 64 - 1) (rw (← ex) h)))
 
 pub room_there : (r : Registry) (n x : ℕ) → n ≡ length r.rows → x ≡ r.next → n < 512 → x < 18_446_744_073_709_551_615 → true ≡ (has_place r && has_next r)
 room_there r n x en ex h k =
-    sym (both (has_place r) (has_next r) (lt_ltb (length r.rows) 512 (rw (← en) h)) (lt_ltb r.next (2 ^ 64 - 1) (rw (← ex) k)))
+    sym (both (has_place r) (has_next r) (lt-ltb (length r.rows) 512 (rw (← en) h)) (lt-ltb r.next (2 ^ 64 - 1) (rw (← ex) k)))
 
 module _ (r : Registry) (h : (has_place r && has_next r) ≡ true) where
   pub room_place : length r.rows < 512
-  room_place = ltb_true (length r.rows) 512 (first (has_place r) (has_next r) h)
+  room_place = ltb-true (length r.rows) 512 (first (has_place r) (has_next r) h)
 
   pub room_next : r.next < 18_446_744_073_709_551_615
-  room_next = ltb_true r.next (2 ^ 64 - 1) (second (has_place r) (has_next r) h)
+  room_next = ltb-true r.next (2 ^ 64 - 1) (second (has_place r) (has_next r) h)
 
 -- `add`: the next id rises, and the entry stands under the id that was next
 module _ (r : Registry) (x : ℕ) (q : x ≡ r.next) (e : Entry) where
@@ -201,7 +201,7 @@ module _ (r : Registry) (x : ℕ) (q : x ≡ r.next) (e : Entry) where
     add_place h = rw l h
 
     pub add_rising : Rising 1 r.next r.rows → Rising 1 r₁.next (r₁.rows ++ (row x e ∷ []))
-    add_rising up = rw (l, q, add_one) (rising_snoc r.rows 1 r.next e up)
+    add_rising up = rw (l, q, add-one) (rising_snoc r.rows 1 r.next e up)
 
     pub add_same : with_rows (r₁.rows ++ (row x e ∷ [])) r₁ ≡ add e r
-    add_same = rw (l, q, add_one)
+    add_same = rw (l, q, add-one)

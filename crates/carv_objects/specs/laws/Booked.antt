@@ -81,7 +81,7 @@ module _ (a : Account) (h : account.sound a ≡ true) where
   charge_books bytes o e = books (leb bytes (account.free a)) (account.charge a bytes) a MemoryLimitReached refl o (e ∙ rw h)
 
   pub credit_is : (bytes : ℕ) (o : Outcome) → o ≡ account.release_memory a bytes → bytes ≤ a.memory_used → o.account ≡ account.credit a bytes
-  credit_is bytes o e p = ap (λ (v : Outcome). v.account) e ∙ rw (h, le_leb bytes a.memory_used p)
+  credit_is bytes o e p = ap (λ (v : Outcome). v.account) e ∙ rw (h, le-leb bytes a.memory_used p)
 
   pub renew_is : (time : ℕ) (o : Outcome) → o ≡ account.refill a time → o.account ≡ account.renew a time
   renew_is time o e = ap (λ (v : Outcome). v.account) e ∙ rw h (test (account.due a time) (λ p. rw p) (λ p. rw p))

@@ -45,42 +45,42 @@ module _ {A : Type 0} where
   ids_alter : (m : List (Row A)) (p : ℕ) (f : A → A) → ids (alter p f m) ≡ ids m
   ids_alter [] p f = refl
   ids_alter (r ∷ m) p f = test (eqb r.id p)
-      (λ e. rw e (ap (λ (n : ℕ). n ∷ ids m) (sym (eqb_true r.id p e))))
+      (λ e. rw e (ap (λ (n : ℕ). n ∷ ids m) (sym (eqb-true r.id p e))))
       (λ e. rw e (ap (◌∷◌ r.id) (ids_alter m p f)))
 
   -- the row with id x stays where it stands
   pub here_moved : (d : Row A) (m : List (Row A)) (l n : ℕ) → d.id ≡ 0 → Rising l n m → (p : ℕ) (f : A → A) (x i : ℕ) → Here d m x i → Here d (alter p f m) x i
   here_moved d m l n z up p f x i h =
-      let same : get_or (ids m) i 0 ≡ x = subst (λ (k : ℕ). get_or (ids m) i k ≡ (get_or m i d).id) z (get_or_map (λ r. r.id) m i d) ∙ h.same in
+      let same : get_or (ids m) i 0 ≡ x = subst (λ (k : ℕ). get_or (ids m) i k ≡ (get_or m i d).id) z (get_or-map (λ r. r.id) m i d) ∙ h.same in
       let k : find_in (ids (alter p f m)) x ≡ At i = ap (λ (ks : List ℕ). find_in ks x) (ids_alter m p f)
-      ∙ find_there (ids m) x i (rising_ids m l n up) (omega (arith, length_map m (λ r. r.id), h.within)) same in
+      ∙ find_there (ids m) x i (rising_ids m l n up) (omega (arith, length-map m (λ r. r.id), h.within)) same in
       subst (Located d (alter p f m) x) k (located d (alter p f m) x)
 
 -- the row with id k and payer p: is it another one that x pays for?
 module _ (k p x : ℕ) where
   pub pays_self : k ≡ x → false ≡ (not (eqb k x) && eqb p x)
-  pays_self e = rw (eq_eqb k x e)
+  pays_self e = rw (eq-eqb k x e)
 
   pub pays_other : (p ≡ x → ⊥) → false ≡ (not (eqb k x) && eqb p x)
   pays_other h = sym (not_second (not (eqb k x)) (eqb p x) (ne_eqb p x h))
 
   pub pays_there : (k ≡ x → ⊥) → p ≡ x → true ≡ (not (eqb k x) && eqb p x)
-  pays_there h e = rw (ne_eqb k x h, eq_eqb p x e)
+  pays_there h e = rw (ne_eqb k x h, eq-eqb p x e)
 
 -- the walk of `pays`: whether x pays for another object, from place i on
 module _ (m : List (Row Entry)) (x i : ℕ) (w : Bool) (k : pays_in (list.drop i m) x ≡ w) where
   pub pays_ends : length m ≤ i → false ≡ w
-  pays_ends h = ap (λ (l : List (Row Entry)). pays_in l x) (sym (drop_of_length_le m h)) ∙ k
+  pays_ends h = ap (λ (l : List (Row Entry)). pays_in l x) (sym (drop_of_length-le m h)) ∙ k
 
   module _ (h : i < length m) (b : Bool) (q : b ≡ (not (eqb (get_or m i no_row).id x) && eqb (get_or m i no_row).it.payer x)) where
     pays_turn : (b || pays_in (list.drop (suc i) m) x) ≡ w
-    pays_turn = rw q (sym (ap (λ (l : List (Row Entry)). pays_in l x) (drop_cons m i no_row h)) ∙ k)
+    pays_turn = rw q (sym (ap (λ (l : List (Row Entry)). pays_in l x) (drop-cons m i no_row h)) ∙ k)
 
     pub pays_found : b ≡ true → true ≡ w
     pays_found t = rw t at pays_turn
 
     pub pays_on : b ≡ false → pays_in (list.drop (i + 1) m) x ≡ w
-    pays_on f = rw add_one (rw f at pays_turn)
+    pays_on f = rw add-one (rw f at pays_turn)
 
 -- an object that is there was found
 pub place_of : (r : Registry) (x : ℕ) → has r x ≡ true → (p : Found) → Located no_row r.rows x p → p ≡ Nothing → (i : ℕ) → Here no_row r.rows x i
@@ -147,7 +147,7 @@ module _ (r : Registry) (s : Sound r) (x i : ℕ) (h : Here no_row r.rows x i) (
 
     -- a charge that the payer covers is within its limit
     charge_within_limit : (n : ℕ) → leb n (account.free y) ≡ true → e.charge + n ≤ y.memory_limit
-    charge_within_limit n b = omega (arith, charge_used, leb_true n (account.free y) b, (sound_told payer_sound).memory)
+    charge_within_limit n b = omega (arith, charge_used, leb-true n (account.free y) b, (sound_told payer_sound).memory)
 
     -- the payer's account goes by f, and the charge by g
     pub booked_is : (f : Account → Account) (g : ℕ → ℕ) (z : Account) → z ≡ f y
@@ -184,7 +184,7 @@ pub uncharge_refused : (a : List ℕ) (s : sound_area a ≡ true) (x i : ℕ) (h
     → (n : ℕ) → e.charge < n → Serves (uncharge x n) a (Refused 11) a
 uncharge_refused a s x i h e q n b =
     refused (uncharge x n) a s 11 (asks.uncharge_above x n (decode a) (here_has (decode a) x i h)
-    (rw (object_read (decode a) (area_sound a s) x i h e q) (lt_leb n e.charge b)))
+    (rw (object_read (decode a) (area_sound a s) x i h e q) (lt-leb n e.charge b)))
 
 -- The calls, of the object x at place i of a sound area, its entry e; its payer at place j, with the account y.
 module _ (a : List ℕ) (s : sound_area a ≡ true) (x i : ℕ) (h : Here no_row (decode a).rows x i) (e : Entry) (q : e ≡ (get_or (decode a).rows i no_row).it)
@@ -220,7 +220,7 @@ module _ (a : List ℕ) (s : sound_area a ≡ true) (x i : ℕ) (h : Here no_row
   pub uncharge_served : (n : ℕ) → n ≤ e.charge → (z : Account) → z ≡ account.credit y n → (v : Answer) (a' : List ℕ)
       → (v ≡ Done) × Leaves a' (object x (λ _. e.charge - n) (budget e.payer (λ _. z) r)) → Serves (uncharge x n) a v a'
   uncharge_served n b z u v a' l =
-      let k = asks.uncharge_done x n r (here_has r x i h) (rw (object_read r S x i h e q) (le_leb n e.charge b)) in
+      let k = asks.uncharge_done x n r (here_has r x i h) (rw (object_read r S x i h e q) (le-leb n e.charge b)) in
       answered (uncharge x n) a s _ k v (ap number l.0) (ap value l.0) a'
       (leaves_as a' _ _ (booked_is r S x i h e q j p y w (λ c. account.credit c n) (λ c. c - n) z u) l.1)
       (kept_at _ _ (kept.uncharge_kept x n r S) k)

@@ -175,7 +175,7 @@ pub stored_of : (r : Registry) (payer i m n kind : ℕ) (h : Here no_row r.rows 
 stored_of r payer i m n kind h y z ey ez q = rw (← q) (stored_plain r payer i m kind h y z ey ez)
 
 pub charged_sound : (y z : Account) (n : ℕ) → z ≡ account.charge y n → account.sound y ≡ true → leb n (account.free y) ≡ true → account.sound z ≡ true
-charged_sound y z n e s p = rw e (charge_sound y n s (leb_true n (account.free y) p))
+charged_sound y z n e s p = rw e (charge_sound y n s (leb-true n (account.free y) p))
 
 -- a reading answers with the area as it came
 pub read_serves : (call : Registry → RegistryReply) (a : List ℕ) → sound_area a ≡ true → (z : RegistryReply) → call (decode a) ≡ z → z.after ≡ decode a → (r : Answer) → number r ≡ z.number → value r ≡ z.value → Serves call a r a

@@ -26,7 +26,7 @@ spends_most a y ns time n h e en o eo =
     let z : o ≡ account.charge_cpu (account.renew a time) (min ns (account.renew a time).cpu_left) time = eo ∙ rw (en, e) in
     let le : min ns (account.renew a time).cpu_left ≤ (account.renew a time).cpu_left = omega arith in
     ap (λ (v : Outcome). v.account) (spend_is (account.renew a time) s (min ns (account.renew a time).cpu_left) time o z)
-    ∙ rw (renew_twice a time, le_leb (min ns (account.renew a time).cpu_left) (account.renew a time).cpu_left le)
+    ∙ rw (renew_twice a time, le-leb (min ns (account.renew a time).cpu_left) (account.renew a time).cpu_left le)
 
 -- no budget: nothing is renewed or charged
 module _ (a : List ℕ) (s : sound_area a ≡ true) (x : ℕ) (g : is_budget (decode a) x ≡ false) where
@@ -59,10 +59,10 @@ module _ (r : Registry) (x i : ℕ) (h : Here no_row r.rows x i) (b : is_budget 
   cpu_tested z ez = rw (refilled, kind_renewed, left_renewed, ez)
 
   pub cpu_none : (z : Account) → z ≡ account.renew y time → z.cpu_left ≡ 0 → false ≡ has_cpu (refill x time r).after x
-  cpu_none z ez q = sym (cpu_tested z ez ∙ le_ltb 0 z.cpu_left (omega arith))
+  cpu_none z ez q = sym (cpu_tested z ez ∙ le-ltb 0 z.cpu_left (omega arith))
 
   pub cpu_some : (z : Account) → z ≡ account.renew y time → (z.cpu_left ≡ 0 → ⊥) → true ≡ has_cpu (refill x time r).after x
-  cpu_some z ez q = sym (cpu_tested z ez ∙ lt_ltb 0 z.cpu_left (omega arith))
+  cpu_some z ez q = sym (cpu_tested z ez ∙ lt-ltb 0 z.cpu_left (omega arith))
 
   pub renewed_is : (z : Account) → z ≡ account.renew y time → budget x (λ _. z) r ≡ (refill x time r).after
   renewed_is z ez = budget_by r x i h (λ a. account.renew a time) z (ez ∙ ap (λ (a : Account). account.renew a time) ey) ∙ sym refilled

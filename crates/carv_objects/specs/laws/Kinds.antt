@@ -62,12 +62,12 @@ below : (n k : ℕ) → n ≤ k + 1 → (n ≡ k + 1 → ⊥) → n ≤ k
 below n k p h = omega arith
 
 pub unlisted : (n : ℕ) → (n ≡ 1 → ⊥) → (n ≡ 2 → ⊥) → (n ≡ 3 → ⊥) → (n ≡ 4 → ⊥) → (n ≡ 5 → ⊥) → (n ≡ 6 → ⊥) → (n ≡ 7 → ⊥) → (n ≡ 8 → ⊥) → (n ≡ 9 → ⊥) → listed n ≡ false
-unlisted n h1 h2 h3 h4 h5 h6 h7 h8 h9 = test (leb n 9) (λ a. not_first (leb 1 n) (leb n 9) (lt_leb 1 n (zero (leb_true n 9 a)))) (λ a. not_second (leb 1 n) (leb n 9) a)
+unlisted n h1 h2 h3 h4 h5 h6 h7 h8 h9 = test (leb n 9) (λ a. not_first (leb 1 n) (leb n 9) (lt-leb 1 n (zero (leb-true n 9 a)))) (λ a. not_second (leb 1 n) (leb n 9) a)
   where
     zero : n ≤ 9 → n < 1
     zero p =
         let q : n ≤ 0 = below n 0 (below n 1 (below n 2 (below n 3 (below n 4 (below n 5 (below n 6 (below n 7 (below n 8 p h9) h8) h7) h6) h5) h4) h3) h2) h1 in
-        suc_le_suc q
+        suc-le-suc q
 
 -- what a code is found to be
 pub named_listed : (n : ℕ) (p : KindCode) → Named n p → (k : Kind) → p ≡ Listed k → code k ≡ n

@@ -35,9 +35,9 @@ rooted y = record { next = 2; rows = row 1 (root y) ∷ [] }
 -- words that are cleared are zeros
 cleared : (l : List ℕ) (n : ℕ) → length l ≡ n → wipe 0 n l ≡ zeros n
 cleared l n e =
-    let z : take n (zeros n) ≡ zeros n = take_all n (zeros n) (omega (arith, length_replicate {A = ℕ} n 0)) in
-    let d : drop (0 + n) l ≡ [] = drop_of_length_le l {i = 0 + n} (omega arith) in
-    rw (z, d) (append_nil (zeros n))
+    let z : take n (zeros n) ≡ zeros n = take_all n (zeros n) (omega (arith, length-replicate {A = ℕ} n 0)) in
+    let d : drop (0 + n) l ≡ [] = drop_of_length-le l {i = 0 + n} (omega arith) in
+    rw (z, d) (append-nil (zeros n))
 
 -- and hold no row
 none_held : (l : List ℕ) (n : ℕ) → 1 ≤ n → l ≡ zeros n → Holds fields 11 l []
@@ -76,17 +76,17 @@ start_formed a₁ a₂ y z h q = record { size = z; next = q.0; rows = rw q.1 h;
 -- What an opening answers.
 module _ (cpu memory : ℕ) (a : List ℕ) where
   pub open_size : (length a ≡ 45_072 → ⊥) → Opened cpu memory a (Refused 1) a
-  open_size n = record { size = λ q. (refl, refl); share = λ q. absurd (n (eqb_true (length a) 45_072 q)); opened = λ q. absurd (n (eqb_true (length a) 45_072 q)) }
+  open_size n = record { size = λ q. (refl, refl); share = λ q. absurd (n (eqb-true (length a) 45_072 q)); opened = λ q. absurd (n (eqb-true (length a) 45_072 q)) }
 
   module _ (z : length a ≡ 45_072) where
     pub open_share : leb cpu period ≡ false → Opened cpu memory a (Refused 2) a
-    open_share n = record { size = λ q. absurd (eqb_false (length a) 45_072 q z); share = λ q s. (refl, refl); opened = λ q s. absurd (true≢false (sym s ∙ n)) }
+    open_share n = record { size = λ q. absurd (eqb-false (length a) 45_072 q z); share = λ q s. (refl, refl); opened = λ q s. absurd (true≢false (sym s ∙ n)) }
 
     pub open_done : (y : Account) → (leb cpu period ≡ true) × (y ≡ fresh cpu memory 0) → (a' : List ℕ) → Formed a' (rooted y) → Opened cpu memory a Done a'
     open_done y h a' k =
         let f : Formed a' (opening cpu memory) = subst (λ (x : Account). Formed a' (rooted x)) h.1 k in
         record {
-          size = λ q. absurd (eqb_false (length a) 45_072 q z);
+          size = λ q. absurd (eqb-false (length a) 45_072 q z);
           share = λ q s. absurd (true≢false (sym h.0 ∙ s));
-          opened = λ q s. (refl, formed_is a' (opening cpu memory) f.size f.next f.rows (opening_sound cpu memory (leb_true cpu period h.0)));
+          opened = λ q s. (refl, formed_is a' (opening cpu memory) f.size f.next f.rows (opening_sound cpu memory (leb-true cpu period h.0)));
         }

@@ -63,7 +63,7 @@ module _ {A : Type 0} where
   at_tab : (n : ℕ) (f : ℕ → Row A) → ((j k : ℕ) → j < k → k < n → (f j).id < (f k).id) → (k : ℕ) → k < n → at (tab n f) (f k).id ≡ some (f k).it
   unfolding tab
   at_tab zero f r k h = absurd (omega arith)
-  at_tab (suc n) f r zero h = rw (eq_eqb (f zero).id (f zero).id refl)
+  at_tab (suc n) f r zero h = rw (eq-eqb (f zero).id (f zero).id refl)
   at_tab (suc n) f r (suc k) h =
       rw (ne_eqb (f zero).id (f (suc k)).id (λ e. omega (arith, r zero (suc k) (omega arith) h)))
       (at_tab n (λ i. f (suc i)) (λ j k x y. r (suc j) (suc k) (omega arith) (omega arith)) k (omega arith))
@@ -80,7 +80,7 @@ module _ {A : Type 0} where
   at_out zero f i a q = let z : ◌≡◌ {A = ℕ} 0 1 = cc in absurd (omega arith)
   at_out (suc n) f i a q = test (eqb (f zero).id i)
       (λ e. let q' : some (f zero).it ≡ some a = rw e at q in
-      record { place = zero; inside = omega arith; id = eqb_true (f zero).id i e; it = cc })
+      record { place = zero; inside = omega arith; id = eqb-true (f zero).id i e; it = cc })
       (λ e. let s = at_out n (λ j. f (suc j)) i a (rw e at q) in
       record { place = suc s.place; inside = omega (arith, s.inside); id = s.id; it = s.it })
 
@@ -121,7 +121,7 @@ module _ (w : List ℕ) (next : ℕ) (S : Sound (registry_in w next)) where
   root = budget_out (get_or w 0 0) (row_at w) 1 S.root
 
   upto : (j k : ℕ) → j ≤ k → k < get_or w 0 0 → id_at w j ≤ id_at w k
-  upto j k h l = ⊎_elim (λ (e : j ≡ k). omega (arith, ap (id_at w) e)) (λ g. omega (arith, rise j k g l)) (eq_or_lt_of_le h)
+  upto j k h l = ⊎_elim (λ (e : j ≡ k). omega (arith, ap (id_at w) e)) (λ g. omega (arith, rise j k g l)) (eq-or-lt_of_le h)
 
   first_id : id_at w 0 ≡ 1
   first_id = omega (arith, root.inside, (within 0 (omega (arith, root.inside))).low, upto 0 root.place (omega arith) root.inside, root.id)
@@ -189,7 +189,7 @@ module _ (w : List ℕ) (next : ℕ) (W : Whole w next) (few : get_or w 0 0 ≤ 
       let p = W.front.plain k l in
       let a = (entry_at w k).account in
       let s = account_laws.sound_told {a = a} p.sound in
-      let b = eqb_false (entry_at w k).kind 6 ne in
+      let b = eqb-false (entry_at w k).kind 6 ne in
       let c : a.cpu_allowance ≡ 0 = p.no_cpu b in
       let m : a.memory_limit ≡ 0 = p.no_memory b in
       let q : a.period_start ≡ 0 = p.no_start b in
@@ -261,7 +261,7 @@ unfolding sound_area rows_in
 asked_out a h =
     let full = second (eqb (length a) 45_072) (sound (decode a) && all_zero (drop (get_or (words (table a)) 0 0 * 11 + 1) (words (table a)))) h in
     let S = sound_told (decode a) (first (sound (decode a)) (all_zero (drop (get_or (words (table a)) 0 0 * 11 + 1) (words (table a)))) full) in (
-      eqb_true (length a) 45_072 (first (eqb (length a) 45_072) _ h),
+      eqb-true (length a) 45_072 (first (eqb (length a) 45_072) _ h),
       record {
         few = rw length_tab at S.few;
         rest = second (sound (decode a)) _ full;
@@ -273,7 +273,7 @@ asked_out a h =
 asked_in : (a : List ℕ) → length a ≡ 45_072 → SoundTable (words (table a)) (decode a).next → sound_area a ≡ true
 unfolding sound_area rows_in
 asked_in a e t =
-    rw (eq_eqb (length a) 45_072 e, sound_shown (decode a) (whole_sound (words (table a)) (decode a).next t.whole t.few)) t.rest
+    rw (eq-eqb (length a) 45_072 e, sound_shown (decode a) (whole_sound (words (table a)) (decode a).next t.whole t.few)) t.rest
 
 refused : (a : List ℕ) → (sound_area a ≡ true → ⊥) → false ≡ sound_area a
 refused a h = test (sound_area a) (λ e. absurd (h e)) (λ e. sym e)

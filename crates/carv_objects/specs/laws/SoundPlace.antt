@@ -41,7 +41,7 @@ module _ {w : List ℕ} {i p lo len : ℕ} (r : Rise w i) (b : Near w i p lo len
     above = λ k l n. ⊎_elim
         (λ (e : lo + h ≡ k). omega (arith, ap (id_at w) e))
         (λ (g : lo + h < k). omega (arith, r (lo + h) k g n))
-        (eq_or_lt_of_le (omega arith));
+        (eq-or-lt_of_le (omega arith));
   }
 
 -- there is no row
@@ -52,7 +52,7 @@ near_past b h j g e = omega (arith, b.inside, b.some (omega arith))
 pub near_other : {w : List ℕ} {i p lo len : ℕ} → Near w i p lo len → len ≤ 1 → (id_at w lo ≡ p → ⊥) → Place w i p Nothing
 near_other {w} {i} {p} {lo} {len} b m ne j g e = ⊎_elim
     (λ (a : j < lo). omega (arith, b.below j a))
-    (λ (a : lo ≤ j). ⊎_elim (λ (q : lo ≡ j). ne (ap (id_at w) q ∙ e)) (λ (a : lo < j). omega (arith, b.above j (omega arith) g)) (eq_or_lt_of_le a))
+    (λ (a : lo ≤ j). ⊎_elim (λ (q : lo ≡ j). ne (ap (id_at w) q ∙ e)) (λ (a : lo < j). omega (arith, b.above j (omega arith) g)) (eq-or-lt_of_le a))
     (lt_or_ge j lo)
 
 -- the place that was found

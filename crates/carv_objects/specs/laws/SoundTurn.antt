@@ -28,7 +28,7 @@ pub front_rise : {w : List ℕ} {next i : ℕ} → Front w next i → Rise w i
 front_rise F j zero h l = absurd (omega arith)
 front_rise {w} F j (suc k) h l =
     let s = ((F.paid (suc k) l).is.later k (omega arith)).0 in
-    ⊎_elim (λ (e : j ≡ k). omega (arith, ap (id_at w) e)) (λ (g : j < k). omega (arith, front_rise F j k g (omega arith))) (eq_or_lt_of_le (omega arith))
+    ⊎_elim (λ (e : j ≡ k). omega (arith, ap (id_at w) e)) (λ (g : j < k). omega (arith, front_rise F j k g (omega arith))) (eq-or-lt_of_le (omega arith))
 
 -- rows at two places have two ids
 pub rise_same : (w : List ℕ) (i : ℕ) → Rise w i → (j k : ℕ) → j < i → k < i → j ≢ k → id_at w j ≢ id_at w k
@@ -62,7 +62,7 @@ owner_none w next i f h e = subst (Owner w next i) e h
 
 -- and its figures can be reached
 pub in_figures : (w : List ℕ) (next i j : ℕ) → Paid w next i j → i < 512 → (xs : List ℕ) (y : ℕ) → length xs ≡ 512 → j < length (set xs i y)
-in_figures w next i j P low xs y size = rw length_set (omega (arith, in_place P))
+in_figures w next i j P low xs y size = rw length-set (omega (arith, in_place P))
 
 -- ---- sums over the first rows
 
@@ -74,7 +74,7 @@ tab_snoc {A = A} (suc n) f = ap (λ (l : List A). f zero ∷ l) (tab_snoc n (λ 
 module _ {A : Type 0} (v : ℕ → A → ℕ) (f : ℕ → Row A) where
   -- one row more
   total_more : (i : ℕ) → total v (tab (i + 1) f) ≡ total v (tab i f) + v (f i).id (f i).it
-  total_more i = rw (add_one, tab_snoc) (Table.total_snoc v (tab i f) (f i).id (f i).it)
+  total_more i = rw (add-one, tab_snoc) (Table.total_snoc v (tab i f) (f i).id (f i).it)
 
   -- d rows more
   total_most : (d i : ℕ) → total v (tab i f) ≤ total v (tab (i + d) f)
@@ -90,7 +90,7 @@ module _ {A : Type 0} (v : ℕ → A → ℕ) (f : ℕ → Row A) where
   unfolding tab
   total_none zero h = refl
   total_none (suc i) h =
-      let z : total v (tab (suc i) f) ≡ total v (tab i f) + v (f i).id (f i).it = rw add_one at (total_more i) in
+      let z : total v (tab (suc i) f) ≡ total v (tab i f) + v (f i).id (f i).it = rw add-one at (total_more i) in
       z ∙ omega (arith, total_none i (λ k l. h k (omega arith)), h i (omega arith))
 
 -- ---- one row more is taken off
@@ -104,9 +104,9 @@ module _ {v : ℕ → ℕ → Entry → ℕ} {f : Account → ℕ} {w : List ℕ
   -- with y in its place
   entered : (k : ℕ) → k ≤ i → get_or (set xs i y) k 0 + total (v (id_at w k)) (tab i (row_at w)) ≡ f (entry_at w k).account
   entered k h = ⊎_elim
-      (λ (a : k < i). rw (get_or_set_other xs i k y 0 (λ e. omega arith)) (L.sum k a))
+      (λ (a : k < i). rw (get_or-set_other xs i k y 0 (λ e. omega arith)) (L.sum k a))
       (λ (a : i ≤ k). let e : k ≡ i = omega arith in
-      rw e (let z = get_or_set_same xs i y 0 (omega (arith, L.size)) in omega arith))
+      rw e (let z = get_or-set_same xs i y 0 (omega (arith, L.size)) in omega arith))
       (lt_or_ge k i)
 
   -- what is left is less than x: the sum is above the figure
@@ -116,18 +116,18 @@ module _ {v : ℕ → ℕ → Entry → ℕ} {f : Account → ℕ} {w : List ℕ
   -- or x is taken off
   left_more : x ≤ get_or (set xs i y) j 0 → (zs : List ℕ) → zs ≡ set (set xs i y) j (get_or (set xs i y) j 0 - x) → Left v f w (i + 1) zs
   left_more h zs e = rw e record {
-    size = simp length_set L.size;
+    size = simp length-set L.size;
     sum = λ k l. ⊎_elim
         (λ (q : k ≡ j). rw q (
-        let z = get_or_set_same (set xs i y) j (get_or (set xs i y) j 0 - x) 0 (rw length_set (omega (arith, L.size))) in
+        let z = get_or-set_same (set xs i y) j (get_or (set xs i y) j 0 - x) 0 (rw length-set (omega (arith, L.size))) in
         omega (arith, entered j in_j, total_more (v (id_at w j)) (row_at w) i)))
         (λ (q : k ≢ j).
-        let z = get_or_set_other (set xs i y) j k (get_or (set xs i y) j 0 - x) 0 q in
+        let z = get_or-set_other (set xs i y) j k (get_or (set xs i y) j 0 - x) 0 q in
         omega (arith, entered k (omega arith), total_more (v (id_at w k)) (row_at w) i, others k (omega arith) q))
         (same_or_not k j);
     rest = λ k l.
-        get_or_set_other (set xs i y) j k (get_or (set xs i y) j 0 - x) 0 (λ q. omega arith)
-        ∙ get_or_set_other xs i k y 0 (λ q. omega arith) ∙ L.rest k (omega arith);
+        get_or-set_other (set xs i y) j k (get_or (set xs i y) j 0 - x) 0 (λ q. omega arith)
+        ∙ get_or-set_other xs i k y 0 (λ q. omega arith) ∙ L.rest k (omega arith);
   }
 
 -- v is a weight that only the payer bears
@@ -179,7 +179,7 @@ module _ {w : List ℕ} {next i j : ℕ} {us ms cs : List ℕ} (W : Walk w next 
 
   -- is row i another one than its payer?
   same_payer : i ≡ 0 → eqb (id_at w i) (id_at w j) ≡ true
-  same_payer e = let q : j ≡ i = (P.first e).1 in eq_eqb (id_at w i) (id_at w j) (ap (id_at w) (sym q))
+  same_payer e = let q : j ≡ i = (P.first e).1 in eq-eqb (id_at w i) (id_at w j) (ap (id_at w) (sym q))
 
   other_payer : (i ≡ 0 → ⊥) → eqb (id_at w i) (id_at w j) ≡ false
   other_payer ne =
@@ -188,7 +188,7 @@ module _ {w : List ℕ} {next i j : ℕ} {us ms cs : List ℕ} (W : Walk w next 
 
   module _ {r : Bool} {zs : List ℕ} (t : Took (set us i e.account.memory_used) j e.charge r zs) where
     at_charge : charge_by (id_at w j) (id_at w i) (entry_at w i) ≡ e.charge
-    at_charge = rw (eq_eqb (entry_at w i).payer (id_at w j) P.payer) (sym (ap (λ (x : Entry). x.charge) is_e))
+    at_charge = rw (eq-eqb (entry_at w i).payer (id_at w j) P.payer) (sym (ap (λ (x : Entry). x.charge) is_e))
 
     is_used : e.account.memory_used ≡ used (entry_at w i).account
     is_used = ap (λ (x : Entry). x.account.memory_used) is_e
@@ -204,9 +204,9 @@ module _ {w : List ℕ} {next i j : ℕ} {us ms cs : List ℕ} (W : Walk w next 
     at_child : child_by g (id_at w j) (id_at w i) (entry_at w i) ≡ x
     at_child = ⊎_elim
         (λ (z : i < 1). let q : i ≡ 0 = omega arith in
-        rw (eq_eqb (entry_at w i).payer (id_at w j) P.payer, same_payer q) (sym (l.root q)))
+        rw (eq-eqb (entry_at w i).payer (id_at w j) P.payer, same_payer q) (sym (l.root q)))
         (λ (z : 1 ≤ i). let ne : i ≢ 0 = λ q. omega arith in
-        rw (eq_eqb (entry_at w i).payer (id_at w j) P.payer, other_payer ne) (sym (l.child ne ∙ ap (λ (x : Entry). g x.account) is_e)))
+        rw (eq-eqb (entry_at w i).payer (id_at w j) P.payer, other_payer ne) (sym (l.child ne ∙ ap (λ (x : Entry). g x.account) is_e)))
         (lt_or_ge i 1)
 
     is_figure : f e.account ≡ f (entry_at w i).account
@@ -236,11 +236,11 @@ module _ {w : List ℕ} {next i j : ℕ} {us ms cs : List ℕ} (W : Walk w next 
 
 left_none : (v : ℕ → ℕ → Entry → ℕ) (f : Account → ℕ) (w : List ℕ) → Left v f w 0 (zeros 512)
 left_none v f w = record {
-  size = length_replicate {A = ℕ} 512 0;
+  size = length-replicate {A = ℕ} 512 0;
   sum = λ k l. absurd (omega arith);
   rest = λ k l. ⊎_elim
-      (λ (a : k < 512). get_or_replicate {A = ℕ} 512 k 0 0 a)
-      (λ (a : 512 ≤ k). get_or_eq_default (zeros 512) 0 {n = k} (rw (length_replicate {A = ℕ} 512 0) a))
+      (λ (a : k < 512). get_or-replicate {A = ℕ} 512 k 0 0 a)
+      (λ (a : 512 ≤ k). get_or-eq_default (zeros 512) 0 {n = k} (rw (length-replicate {A = ℕ} 512 0) a))
       (lt_or_ge k 512);
 }
 
@@ -256,14 +256,14 @@ walk_none w next = record {
 module _ {v : ℕ → ℕ → Entry → ℕ} {f : Account → ℕ} {w : List ℕ} {n : ℕ} {xs : List ℕ} (L : Left v f w n xs) (few : n ≤ 512) where
   left_so : all_zero xs ≡ true → Sums v f w n
   left_so z k l =
-      let e : get_or xs k 0 ≡ 0 = ap (λ (q : List ℕ). get_or q k 0) (all_zero_lem xs z) ∙ get_or_replicate (length xs) k 0 0 (omega (arith, L.size)) in
+      let e : get_or xs k 0 ≡ 0 = ap (λ (q : List ℕ). get_or q k 0) (all_zero_lem xs z) ∙ get_or-replicate (length xs) k 0 0 (omega (arith, L.size)) in
       omega (arith, L.sum k l)
 
   left_back : Sums v f w n → all_zero xs ≡ true
   left_back h =
-      let e : xs ≡ zeros (length xs) = ext_get_or 0 xs (zeros (length xs)) (sym (length_replicate (length xs) 0))
+      let e : xs ≡ zeros (length xs) = ext_get_or 0 xs (zeros (length xs)) (sym (length-replicate (length xs) 0))
       (λ k b. ⊎_elim (λ (a : k < n). omega (arith, L.sum k a, h k a)) (λ (a : n ≤ k). L.rest k a) (lt_or_ge k n)
-      ∙ sym (get_or_replicate (length xs) k 0 0 b)) in
+      ∙ sym (get_or-replicate (length xs) k 0 0 b)) in
       ap all_zero e ∙ zeros_zero (length xs)
 
 -- after the last row

@@ -91,7 +91,7 @@ module _ (r : Registry) (b id : ℕ) (marks : List Bool) (known i : ℕ) (M : Ma
 -- the object at a place
 at_place : (m : List (Row Entry)) (l n k : ℕ) → Rising l n m → k < length m → at m (get_or m k no_row).id ≡ some (get_or m k no_row).it
 at_place [] l n k u h = absurd (omega arith)
-at_place (x ∷ m) l n zero u h = rw (eq_eqb x.id x.id refl)
+at_place (x ∷ m) l n zero u h = rw (eq-eqb x.id x.id refl)
 at_place (x ∷ m) l n (suc k) u h =
     let ih = at_place m (suc x.id) n k u.1 (omega arith) in
     rw (ne_eqb x.id (get_or m k no_row).id (λ q. let z = Table.at_below m (suc x.id) n (get_or m k no_row).id u.1 (omega arith) in
@@ -119,11 +119,11 @@ module _ (r : Registry) (s : Sound r) (b k : ℕ) (h : k < length r.rows) where
       w ∙ ap (within r b) e ∙ sym (within_step r s b _ _ (place_is r s k h) ∙ ap (λ (c : Bool). c || within r b (get_or r.rows k no_row).it.payer) (ne_eqb _ b (λ z. n (q ∙ z))))
 
 pub not_counted : (r : Registry) (i : ℕ) (counts : Bool) → not counts ≡ true → Part r i counts (record { memory_used = 0; memory_free = 0; cpu_left = 0 })
-not_counted r i counts h = let off = not_true counts h in record { used = rw off; free = rw off; left = rw off }
+not_counted r i counts h = let off = not-true counts h in record { used = rw off; free = rw off; left = rw off }
 
 pub counted : (r : Registry) (i : ℕ) (counts : Bool) (c : Account) (f : ℕ) → not counts ≡ false → c ≡ (get_or r.rows i no_row).it.account → f ≡ account.free c
     → Part r i counts (record { memory_used = c.memory_used; memory_free = f; cpu_left = c.cpu_left })
-counted r i counts c f h q p = let on = not_false counts h in rw (p, q) (record { used = rw on; free = rw on; left = rw on })
+counted r i counts c f h q p = let on = not-false counts h in rw (p, q) (record { used = rw on; free = rw on; left = rw on })
 
 -- what an object's account adds, and the sum of the first places
 abbrev weight : (Account → ℕ) → Registry → (b : ℕ) → ℕ → Entry → ℕ
@@ -147,7 +147,7 @@ module _ (r : Registry) (b k : ℕ) (h : k < length r.rows) (marks : List Bool) 
     (counts : t ≡ within r b (get_or r.rows k no_row).id)
     (p : Totals) (P : Part r k t p) (u f l : ℕ) (A : Passed r b marks u f l k) where
   more : (g : Account → ℕ) (n v : ℕ) → n ≡ so_far g r b k → v ≡ cond t (g (get_or r.rows k no_row).it.account) 0 → n + v ≡ so_far g r b (k + 1)
-  more g n v e d = rw (add_one, take_suc r.rows k no_row h) (omega (
+  more g n v e d = rw (add-one, take-suc r.rows k no_row h) (omega (
     arith,
     total_append (weight g r b) (take k r.rows) (get_or r.rows k no_row ∷ []),
     d,
@@ -158,8 +158,8 @@ module _ (r : Registry) (b k : ℕ) (h : k < length r.rows) (marks : List Bool) 
   marks_on = record {
     fits = omega arith;
     right = λ i d. test (eqb i k)
-        (λ e. let z : i ≡ k = eqb_true i k e in rw z (get_or_set_same marks k t false (omega arith) ∙ counts))
-        (λ e. let z = eqb_false i k e in get_or_set_other marks k i t false z ∙ A.marked.right i (omega arith));
+        (λ e. let z : i ≡ k = eqb-true i k e in rw z (get_or-set_same marks k t false (omega arith) ∙ counts))
+        (λ e. let z = eqb-false i k e in get_or-set_other marks k i t false z ∙ A.marked.right i (omega arith));
   }
 
   pub passes : Passed r b (set marks k t) (u + p.memory_used) (f + p.memory_free) (l + p.cpu_left) (k + 1)

@@ -66,7 +66,7 @@ read_totals_added i = refl
 
 -- and no number above 14
 above_14 : (n : ℕ) → 14 < n → added n ≡ false
-above_14 n h = rw (le_leb 1 n (omega arith), lt_leb n 6 (omega arith), ne_eqb n 11 (λ q. omega arith))
+above_14 n h = rw (le-leb 1 n (omega arith), lt-leb n 6 (omega arith), ne_eqb n 11 (λ q. omega arith))
 
 pub no_more_added : (c : Call) (n : ℕ) → 14 < n → is_added c n ≡ false
 no_more_added (create kind payer backing) n h = above_14 n h
@@ -149,7 +149,7 @@ clear_none : (cs : List Call) (r : Registry) → clear (numbers cs r) ≡ true �
 clear_none [] r h = tt
 clear_none (c ∷ cs) r h =
     let a = is_added c (run c r).number in
-    (not_true a (first (not a) _ h), clear_none cs (run c r).after (second (not a) _ h))
+    (not-true a (first (not a) _ h), clear_none cs (run c r).after (second (not a) _ h))
 
 -- has the Rust a method for each?
 abbrev all_in_rust : List Call → Bool

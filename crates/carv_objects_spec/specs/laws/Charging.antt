@@ -24,7 +24,7 @@ use Rattle.carv_objects_spec.specs.laws.Totals.{and_true}
 read_altered : (i : ℕ) (f : Entry → Entry) (m : List (Row Entry)) → found (at m i) ≡ true → or_missing (at (alter i f m) i) ≡ f (or_missing (at m i))
 read_altered i f [] h = absurd (false≢true h)
 read_altered i f (r ∷ m) h = test (eqb r.id i)
-    (λ e. rw (e, eq_eqb i i refl))
+    (λ e. rw (e, eq-eqb i i refl))
     (λ e. rw (e, e) (read_altered i f m (rw e at h)))
 
 -- Both calls move the charge of an object i by g, and the account of its payer p by f.
@@ -92,9 +92,9 @@ used_as x n m h = ap (λ (u : ℕ). with_memory x u x.memory_reserved) h
 
 covers : (F a b : ℕ) → (leb a F && leb b (F - a)) ≡ leb (a + b) F
 covers F a b = test (leb (a + b) F)
-    (λ h. let k = leb_true (a + b) F h in rw (h, le_leb a F (omega arith), le_leb b (F - a) (omega arith)))
-    (λ h. let k = leb_false (a + b) F h in rw h (test (leb a F)
-    (λ x. let y = leb_true a F x in rw x (lt_leb b (F - a) (omega arith)))
+    (λ h. let k = leb-true (a + b) F h in rw (h, le-leb a F (omega arith), le-leb b (F - a) (omega arith)))
+    (λ h. let k = leb-false (a + b) F h in rw h (test (leb a F)
+    (λ x. let y = leb-true a F x in rw x (lt-leb b (F - a) (omega arith)))
     (λ x. rw x)))
 
 -- The calls on an object that is there.
@@ -128,7 +128,7 @@ passing_there : (i n : ℕ) (r : Registry) → passes i n r ≡ true → has r i
 passing_there i n r k = test (has r i) (λ h. h) (λ h. absurd (false≢true (sym (missing_fails i n r h) ∙ k)))
 
 pub covered : (i n : ℕ) (r : Registry) → passes i n r ≡ true → n ≤ free (account_of r (payer_of r i))
-covered i n r k = leb_true n (free (paying r i)) (sym (passes_is i n r (passing_there i n r k)) ∙ k)
+covered i n r k = leb-true n (free (paying r i)) (sym (passes_is i n r (passing_there i n r k)) ∙ k)
 
 -- a refused charge leaves the registry
 pub refused_stays : (i n : ℕ) (r : Registry) → passes i n r ≡ false → left_by i n r ≡ r
@@ -185,15 +185,15 @@ module _ (i : ℕ) (r : Registry) where
   -- where a fails, a + b is answered as a; neither changes anything (`refused_stays`)
   pub first_fails : (a b : ℕ) → passes i a r ≡ false → charge_more i (a + b) r ≡ charge_more i a r
   first_fails a b k = test (has r i)
-      (λ h. let l = leb_false a (free (paying r i)) (sym (passes_is i a r h) ∙ k) in
-      asks.charge_more_cover i (a + b) r h (lt_leb (a + b) (free (paying r i)) (omega arith)) ∙ sym (failed i a r h k))
+      (λ h. let l = leb-false a (free (paying r i)) (sym (passes_is i a r h) ∙ k) in
+      asks.charge_more_cover i (a + b) r h (lt-leb (a + b) (free (paying r i)) (omega arith)) ∙ sym (failed i a r h k))
       (λ h. asks.charge_more_missing i (a + b) r h ∙ sym (asks.charge_more_missing i a r h))
 
   -- a charge of 0 is accepted wherever the object is there, nothing free or not, and changes nothing
   pub nothing : has r i ≡ true → charge_more i 0 r ≡ accept none r
   nothing h =
       let p = payer_of r i in
-      passed i 0 r h (passes_is i 0 r h ∙ le_leb 0 (free (paying r i)) (omega arith))
+      passed i 0 r h (passes_is i 0 r h ∙ le-leb 0 (free (paying r i)) (omega arith))
       ∙ ap (λ (z : Registry). accept none z)
       (moved_as r i p (λ x. charge x 0) (λ x. x) (λ c. c + 0) (λ c. c) (λ x. used_as x (x.memory_used + 0) x.memory_used (omega arith)) (λ c. omega arith)
       ∙ moved_none r i p)
@@ -242,7 +242,7 @@ module _ (i : ℕ) (r : Registry) (s : sound r ≡ true) where
       let p = payer_of r i in
       let charge_after : (entry (left_by i a r) i).charge ≡ (entry r i).charge + a =
       ap (λ (z : Registry). (entry z i).charge) (left_is i a r h k) ∙ moved_charge r i p (λ x. charge x a) (λ c. c + a) h in
-      asks.uncharge_done i a (left_by i a r) (left_has i a i r ∙ h) (le_leb a (entry (left_by i a r) i).charge (omega (arith, charge_after)))
+      asks.uncharge_done i a (left_by i a r) (left_has i a i r ∙ h) (le-leb a (entry (left_by i a r) i).charge (omega (arith, charge_after)))
       ∙ ap (λ (z : Registry). accept none z) (
       ap (λ (q : ℕ). moved (left_by i a r) i q (λ x. credit x a) (λ c. c - a)) (left_payer i a i r)
       ∙ ap (λ (z : Registry). moved z i p (λ x. credit x a) (λ c. c - a)) (left_is i a r h k)
@@ -294,7 +294,7 @@ swapped i j a b r k l' l k' =
 module _ (i j : ℕ) (r : Registry) (d : payers_differ r i j ≡ true) where
   apart : has r i ≡ true → has r j ≡ true → payer_of r i ≡ payer_of r j → ⊥
   apart h k q =
-      let shared : payers_differ r i j ≡ false = rw (h, k, eq_eqb (payer_of r i) (payer_of r j) q) in
+      let shared : payers_differ r i j ≡ false = rw (h, k, eq-eqb (payer_of r i) (payer_of r j) q) in
       false≢true (sym shared ∙ d)
 
   -- "Two charges on objects of different payers give the same answers and state in either order", accepted or refused, the objects there or not
@@ -332,13 +332,13 @@ differing i j r apart = test (has r i)
 pub both_either_order : (i j a b : ℕ) (r : Registry) → sound r ≡ true → passes i a r ≡ true → passes j b (left_by i a r) ≡ true
     → (passes j b r ≡ true) × (passes i a (left_by j b r) ≡ true) × (left_by j b (left_by i a r) ≡ left_by i a (left_by j b r))
 both_either_order i j a b r s k l = test (eqb (payer_of r j) (payer_of r i))
-    (λ e. let q = eqb_true (payer_of r j) (payer_of r i) e in
-    let m = leb_true (a + b) (free (paying r i)) (sym (both_covered i a r (sound_told r s) k j g q b) ∙ l) in
-    let j_first : passes j b r ≡ true = passes_is j b r g ∙ ap (λ (p : ℕ). leb b (free (account_of r p))) q ∙ le_leb b (free (paying r i)) (omega arith) in
+    (λ e. let q = eqb-true (payer_of r j) (payer_of r i) e in
+    let m = leb-true (a + b) (free (paying r i)) (sym (both_covered i a r (sound_told r s) k j g q b) ∙ l) in
+    let j_first : passes j b r ≡ true = passes_is j b r g ∙ ap (λ (p : ℕ). leb b (free (account_of r p))) q ∙ le-leb b (free (paying r i)) (omega arith) in
     let i_next : passes i a (left_by j b r) ≡ true = both_covered j b r (sound_told r s) j_first i h (sym q) a ∙ ap (λ (p : ℕ). leb (b + a) (free (account_of r p))) q
-    ∙ le_leb (b + a) (free (paying r i)) (omega arith) in
+    ∙ le-leb (b + a) (free (paying r i)) (omega arith) in
     (j_first, i_next, swapped i j a b r k l j_first i_next))
-    (λ e. let q = eqb_false (payer_of r j) (payer_of r i) e in
+    (λ e. let q = eqb-false (payer_of r j) (payer_of r i) e in
     let j_first : passes j b r ≡ true = sym (passes_apart j i r (λ _ _ z. q z) b a) ∙ l in
     let i_next : passes i a (left_by j b r) ≡ true = passes_apart i j r (λ _ _ z. q (sym z)) a b ∙ k in
     (j_first, i_next, swapped i j a b r k l j_first i_next))
@@ -371,7 +371,7 @@ pub all_numbered : (i n : ℕ) (ns : List ℕ) (r : Registry) → sound r ≡ tr
 all_numbered i n [] r s =
     let alone : n ≡ n + 0 = omega arith in
     test (passes i n r)
-    (λ k. ap (λ (z : Bool). cond z 0 (charge_more i n r).number) k ∙ sym (eqb_true (charge_more i n r).number 0 k))
+    (λ k. ap (λ (z : Bool). cond z 0 (charge_more i n r).number) k ∙ sym (eqb-true (charge_more i n r).number 0 k))
     (λ k. ap (λ (z : Bool). cond z 0 (charge_more i n r).number) k) ∙ ap (λ (m : ℕ). (charge_more i m r).number) alone
 all_numbered i n (m ∷ ms) r s = test (passes i n r)
     (λ k. ap (λ (z : Bool). cond z (first_refusal i (m ∷ ms) (left_by i n r)) (charge_more i n r).number) k
@@ -388,18 +388,18 @@ take_out n (m ∷ ms) = cond (eqb m n) ms (m ∷ take_out n ms)
 taken_out : (n : ℕ) (ms : List ℕ) → (times n ms ≡ 0 → ⊥) → (sum ms ≡ n + sum (take_out n ms)) × ((k : ℕ) → times k ms ≡ cond (eqb n k) 1 0 + times k (take_out n ms))
 taken_out n [] h = absurd (h refl)
 taken_out n (m ∷ ms) h = test (eqb m n)
-    (λ e. let q = eqb_true m n e in rw (e, q) (refl, λ k. refl))
+    (λ e. let q = eqb-true m n e in rw (e, q) (refl, λ k. refl))
     (λ e. let (sum_is_lem, times_are) = taken_out n ms (λ z. h (rw e (omega (arith, z)))) in rw e (omega arith, λ k. omega (arith, times_are k)))
 
 -- nothing but the empty list is the empty one in another order
 pub not_empty : (m : ℕ) (ms : List ℕ) → Reordered (m ∷ ms) [] → ⊥
-not_empty m ms h = let z = rw (eq_eqb m m refl) at (h m) in omega arith
+not_empty m ms h = let z = rw (eq-eqb m m refl) at (h m) in omega arith
 
 sum_reordered : (ns ms : List ℕ) → Reordered ns ms → sum ns ≡ sum ms
 sum_reordered [] [] h = refl
 sum_reordered [] (m ∷ ms) h = absurd (not_empty m ms (λ n. sym (h n)))
 sum_reordered (n ∷ ns) ms h =
-    let here = rw (eq_eqb n n refl) at (h n) in
+    let here = rw (eq-eqb n n refl) at (h n) in
     let (sum_is_lem, times_are) = taken_out n ms (λ z. omega arith) in
     let rest = sum_reordered ns (take_out n ms) (λ k. omega (arith, h k, times_are k)) in omega arith
 

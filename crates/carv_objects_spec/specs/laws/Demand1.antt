@@ -31,8 +31,8 @@ module _ {A S : Type 0} where
   ask n true s h k = k
   ask n false s h k = record {
     left = λ q. refl;
-    not_one = λ q. let low = leb_true 2 n (first (leb 2 n) _ h) in omega arith;
-    not_15 = eqb_false n 15 (not_true (eqb n 15) (second (leb 2 n) _ h));
+    not_one = λ q. let low = leb-true 2 n (first (leb 2 n) _ h) in omega arith;
+    not_15 = eqb-false n 15 (not-true (eqb n 15) (second (leb 2 n) _ h));
   }
 
 -- what a call that is refused leaves, and that it is not refused with 1. P12: nor with 15
@@ -52,8 +52,8 @@ module _ (c : Call) (r : Registry) where
   leaves_refused : (n : ℕ) (s : Registry) → run c r ≡ refuse n s → answerable n ≡ true → with_renewal (renewal_left c n r) r ≡ s → Leaves c r
   leaves_refused n s e h w = record {
     left = λ q. rw (e, w);
-    not_one = λ q. let z : n ≡ 1 = rw e at q in let low = leb_true 2 n (first (leb 2 n) _ h) in omega arith;
-    not_15 = λ q. eqb_false n 15 (not_true (eqb n 15) (second (leb 2 n) _ h)) (rw e at q);
+    not_one = λ q. let z : n ≡ 1 = rw e at q in let low = leb-true 2 n (first (leb 2 n) _ h) in omega arith;
+    not_15 = λ q. eqb-false n 15 (not-true (eqb n 15) (second (leb 2 n) _ h)) (rw e at q);
   }
 
 renewed_left : (i time : ℕ) (r : Registry) → is_budget r i ≡ true → with_renewal (some (i, time)) r ≡ budget i (λ a. account.renew a time) r

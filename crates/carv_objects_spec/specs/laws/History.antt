@@ -80,7 +80,7 @@ pub budget_page : (r : Registry) (k : Book) → FollowsRegistry r k → (i : ℕ
 budget_page r k F i e B = go (at k.budgets i) refl
   where
     go : (o : Option Budget) → at k.budgets i ≡ o → (b : Budget) × (at k.budgets i ≡ some b) × Agrees e.account b
-    go none q = let h : eqb e.kind 6 ≡ false = rw (B.here, q) at (F.budget i) in absurd (eqb_false e.kind 6 h B.kind)
+    go none q = let h : eqb e.kind 6 ≡ false = rw (B.here, q) at (F.budget i) in absurd (eqb-false e.kind 6 h B.kind)
     go (some b) q = let m : SameBudget e b = rw (B.here, q) at (F.budget i) in (b, q, m.account)
 
 -- the budgets live by the book are the registry's
@@ -205,30 +205,30 @@ module _ {B : Type 0} (M : Entry → B → Type 0) (L : Entry → Type 0) (m : L
   match_alter : (i : ℕ) (f : Entry → Entry) (g : B → B) (e : Entry) (b : B) → at m i ≡ some e → at n i ≡ some b → M (f e) (g b)
       → (j : ℕ) → Match M L (at (alter i f m) j) (at (alter i g n) j)
   match_alter i f g e b here there it j = test (eqb i j)
-      (λ a. rw (← eqb_true i j a) (rw (Table.at_alter m i f e here, Table.at_alter n i g b there) it))
-      (λ a. rw (Table.at_alter_other m i j f (eqb_false i j a), Table.at_alter_other n i j g (eqb_false i j a)) (each j))
+      (λ a. rw (← eqb-true i j a) (rw (Table.at_alter m i f e here, Table.at_alter n i g b there) it))
+      (λ a. rw (Table.at_alter_other m i j f (eqb-false i j a), Table.at_alter_other n i j g (eqb-false i j a)) (each j))
 
   match_first : (i : ℕ) (f : Entry → Entry) (e : Entry) → at m i ≡ some e → ((b : Option B) → Match M L (some e) b → Match M L (some (f e)) b)
       → (j : ℕ) → Match M L (at (alter i f m) j) (at n j)
   match_first i f e here it j = test (eqb i j)
-      (λ a. rw (← eqb_true i j a) (rw (Table.at_alter m i f e here) (it (at n i) (rw here at (each i)))))
-      (λ a. rw (Table.at_alter_other m i j f (eqb_false i j a)) (each j))
+      (λ a. rw (← eqb-true i j a) (rw (Table.at_alter m i f e here) (it (at n i) (rw here at (each i)))))
+      (λ a. rw (Table.at_alter_other m i j f (eqb-false i j a)) (each j))
 
   match_add : (i : ℕ) (e : Entry) (b : B) → at m i ≡ none → at n i ≡ none → M e b
       → (j : ℕ) → Match M L (at (m ++ (record { id = i; it = e } ∷ [])) j) (at (n ++ (record { id = i; it = b } ∷ [])) j)
   match_add i e b here there it j = test (eqb i j)
-      (λ a. rw (← eqb_true i j a) (rw (Table.at_snoc m i 0 e here, Table.at_snoc n i 0 b there) it))
-      (λ a. rw (Table.at_snoc_other m i j e (eqb_false i j a), Table.at_snoc_other n i j b (eqb_false i j a)) (each j))
+      (λ a. rw (← eqb-true i j a) (rw (Table.at_snoc m i 0 e here, Table.at_snoc n i 0 b there) it))
+      (λ a. rw (Table.at_snoc_other m i j e (eqb-false i j a), Table.at_snoc_other n i j b (eqb-false i j a)) (each j))
 
   match_add_first : (i : ℕ) (e : Entry) → at m i ≡ none → at n i ≡ none → L e → (j : ℕ) → Match M L (at (m ++ (record { id = i; it = e } ∷ [])) j) (at n j)
   match_add_first i e here there it j = test (eqb i j)
-      (λ a. rw (← eqb_true i j a) (rw (Table.at_snoc m i 0 e here, there) it))
-      (λ a. rw (Table.at_snoc_other m i j e (eqb_false i j a)) (each j))
+      (λ a. rw (← eqb-true i j a) (rw (Table.at_snoc m i 0 e here, there) it))
+      (λ a. rw (Table.at_snoc_other m i j e (eqb-false i j a)) (each j))
 
   match_erase : (i l o p : ℕ) → Rising l o m → Rising l p n → (j : ℕ) → Match M L (at (erase i m) j) (at (erase i n) j)
   match_erase i l o p up up' j = test (eqb i j)
-      (λ a. rw (← eqb_true i j a) (rw (Table.at_erase m l o i up, Table.at_erase n l p i up') tt))
-      (λ a. rw (Table.at_erase_other m i j (eqb_false i j a), Table.at_erase_other n i j (eqb_false i j a)) (each j))
+      (λ a. rw (← eqb-true i j a) (rw (Table.at_erase m l o i up, Table.at_erase n l p i up') tt))
+      (λ a. rw (Table.at_erase_other m i j (eqb-false i j a), Table.at_erase_other n i j (eqb-false i j a)) (each j))
 
 rising_more : {A : Type 0} (m : List (Row A)) (l n : ℕ) → Rising l n m → Rising l (suc n) m
 rising_more [] l n u = omega arith
@@ -247,7 +247,7 @@ follow_account r k F i e B f g step =
       budgets_rising = Table.rising_alter k.budgets 1 k.next i g F.budgets_rising;
       object = match_first SameObject (λ e. ⊥) r.rows k.objects F.object i (on_account f) e B.here same;
       budget = match_alter SameBudget (λ e. eqb e.kind 6 ≡ false) r.rows k.budgets F.budget i (on_account f) g e b B.here there
-          (record { kind = eq_eqb e.kind 6 B.kind; account = step b agrees });
+          (record { kind = eq-eqb e.kind 6 B.kind; account = step b agrees });
     }
   where
     same : (o : Option Object) → ObjectMatch (some e) o → ObjectMatch (some (on_account f e)) o

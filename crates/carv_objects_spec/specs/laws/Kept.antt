@@ -33,7 +33,7 @@ StaysBut n P r = (q : ℕ) → eqb q 0 ≡ false → eqb q n ≡ false → P (re
 -- Looking up.
 
 pub live_budget : (r : Registry) (i : ℕ) → is_budget r i ≡ true → (e : Entry) × BudgetEntry r i e
-live_budget r i h = budget_entry r i (eqb_true (entry r i).kind 6 h)
+live_budget r i h = budget_entry r i (eqb-true (entry r i).kind 6 h)
 
 pub live_object : (r : Registry) (i : ℕ) → Sound r → has r i ≡ true → (e : Entry) × (y : Entry) × ObjectEntry r i e y
 live_object r i s h = go (at r.rows i) refl
@@ -49,7 +49,7 @@ budget_sound {r} {i} {e} s B = account_sound (s.each i e B.here)
 -- what an object is charged, its payer has used
 pub charge_within : (r : Registry) (i : ℕ) (e y : Entry) → Sound r → ObjectEntry r i e y → e.charge ≤ y.account.memory_used
 charge_within r i e y s O =
-    let h = rw (eq_eqb e.payer e.payer refl) at (Table.total_at (charge_by e.payer) r.rows i e O.here) in
+    let h = rw (eq-eqb e.payer e.payer refl) at (Table.total_at (charge_by e.payer) r.rows i e O.here) in
     omega (arith, (s.each e.payer y O.payer.here).used)
 
 -- the limits of a child are within its payer's reservations
@@ -59,7 +59,7 @@ pub record LimitsWithin (child a : Account) : Type 0 where
 
 pub limits_within : (r : Registry) (i : ℕ) (e y : Entry) → Sound r → ObjectEntry r i e y → (i ≡ 1 → ⊥) → LimitsWithin e.account y.account
 limits_within r i e y s O not_root =
-    let on = eq_eqb e.payer e.payer refl in
+    let on = eq-eqb e.payer e.payer refl in
     let low = (s.each i e O.here).lower not_root in
     let off = ne_eqb i e.payer (λ q. omega arith) in
     let h = rw (on, off) at (Table.total_at (memory_by e.payer) r.rows i e O.here) in
@@ -151,10 +151,10 @@ insert_cases P kind payer n r stay go =
     asked P (is_budget r payer) (stay 7 refl) λ f.
     asked P (leb n (free (account_of r payer))) (stay 12 refl) λ g.
     let (e, B) = live_budget r payer f in
-    go e B a (not_true (eqb kind 6) b) (ltb_true (length r.rows) 512 c) (leb_true n (free e.account) (rw (B.read, account_of) at g))
+    go e B a (not-true (eqb kind 6) b) (ltb-true (length r.rows) 512 c) (leb-true n (free e.account) (rw (B.read, account_of) at g))
 
 creatable_kind : (k : ℕ) → creatable k ≡ true → eqb k 6 ≡ false
-creatable_kind k h = test (eqb k 6) (λ a. let z : false ≡ true = rw (eqb_true k 6 a) at h in cc) (λ a. a)
+creatable_kind k h = test (eqb k 6) (λ a. let z : false ≡ true = rw (eqb-true k 6 a) at h in cc) (λ a. a)
 
 pub create_cases : (P : RegistryReply → Type 0) (kind payer : ℕ) (backing : Bool) (r : Registry) → Stays P r
     → ((e : Entry) → BudgetEntry r payer e → listed kind ≡ true → eqb kind 6 ≡ false → length r.rows < 512 → bytes_of kind ≤ free e.account
@@ -169,7 +169,7 @@ create_cases P kind payer backing r stay go =
     asked P (creatable kind) (stay 13 refl) λ h.
     asked P (not (needs_backing kind) || backing) (stay 14 refl) λ i.
     let (e, B) = live_budget r payer f in
-    go e B a (creatable_kind kind h) (ltb_true (length r.rows) 512 c) (leb_true (bytes_of kind) (free e.account) (rw (B.read, account_of) at g))
+    go e B a (creatable_kind kind h) (ltb-true (length r.rows) 512 c) (leb-true (bytes_of kind) (free e.account) (rw (B.read, account_of) at g))
 
 -- an entry that is no budget, which its payer can cover
 plain_kept : (r : Registry) (kind payer n : ℕ) (e : Entry) → Sound r → BudgetEntry r payer e → listed kind ≡ true → eqb kind 6 ≡ false
@@ -218,7 +218,7 @@ charge_cpu_cases P i ns t r stay renews go =
     asked P (is_budget r i) (stay 7 refl refl) λ a.
     let (e, B) = live_budget r i a in
     asked P (leb ns (renew (account_of r i) t).cpu_left) (renews e B) λ b.
-    go e B (leb_true ns (renew e.account t).cpu_left (rw (B.read, account_of) at b))
+    go e B (leb-true ns (renew e.account t).cpu_left (rw (B.read, account_of) at b))
 
 pub charge_cpu_kept : (i ns t : ℕ) (r : Registry) → Sound r → Sound (charge_cpu i ns t r).after
 charge_cpu_kept i ns t r s =
@@ -251,10 +251,10 @@ create_budget_cases P parent cpu memory t r stay poor renews go =
     (test (leb 128 (free e.account))
     (λ d. rw d (asked P (leb cpu (renew e.account t).cpu_left) (renews e B d) λ f.
     asked P (leb memory (free (charge e.account 128))) (renews e B d) λ g.
-    go e B (ltb_true (length r.rows) 512 a) (record {
-      object = leb_true 128 (free e.account) d;
-      cpu_left = leb_true cpu (renew e.account t).cpu_left f;
-      memory_free = leb_true memory (free (charge e.account 128)) g;
+    go e B (ltb-true (length r.rows) 512 a) (record {
+      object = leb-true 128 (free e.account) d;
+      cpu_left = leb-true cpu (renew e.account t).cpu_left f;
+      memory_free = leb-true memory (free (charge e.account 128)) g;
     })))
     (λ d. rw d (poor e B d)))
 
@@ -282,7 +282,7 @@ charge_more_cases P i n r s stay go =
     asked P (leb n (free (account_of r (payer_of r i)))) (stay 12 refl) λ b.
     let (e, y, O) = live_object r i s a in
     let b' = rw (O.payer.read, account_of) at (rw (O.read, payer_of) at b) in
-    rw (O.read, payer_of) (go e y O (leb_true n (free y.account) b'))
+    rw (O.read, payer_of) (go e y O (leb-true n (free y.account) b'))
 
 pub charge_more_kept : (i n : ℕ) (r : Registry) → Sound r → Sound (charge_more i n r).after
 charge_more_kept i n r s =
@@ -296,7 +296,7 @@ uncharge_cases P i n r s stay go =
     asked P (has r i) (stay 7 refl) λ a.
     asked P (leb n (entry r i).charge) (stay 11 refl) λ b.
     let (e, y, O) = live_object r i s a in
-    rw (O.read, payer_of) (go e y O (leb_true n e.charge (rw O.read at b)))
+    rw (O.read, payer_of) (go e y O (leb-true n e.charge (rw O.read at b)))
 
 pub uncharge_kept : (i n : ℕ) (r : Registry) → Sound r → Sound (uncharge i n r).after
 uncharge_kept i n r s =
@@ -318,8 +318,8 @@ not_paying : (m : List (Row Entry)) (i : ℕ) → pays_in m i ≡ false → (j :
 not_paying [] i h j d apart at_j q = let z : ◌≡◌ {A = ℕ} 0 1 = cc in omega arith
 not_paying (r ∷ m) i h j d apart at_j q = test (eqb r.id j)
     (λ a. let at_j' : some r.it ≡ some d = rw a at at_j in let x : r.it ≡ d = cc in
-    let off = ne_eqb r.id i (λ p. apart (sym p ∙ eqb_true r.id j a)) in
-    let on = eq_eqb r.it.payer i (ap (λ (k : Entry). k.payer) x ∙ sym q) in
+    let off = ne_eqb r.id i (λ p. apart (sym p ∙ eqb-true r.id j a)) in
+    let on = eq-eqb r.it.payer i (ap (λ (k : Entry). k.payer) x ∙ sym q) in
     let z : true ≡ false = rw (off, on) at h in let y : ◌≡◌ {A = ℕ} 0 1 = cc in omega arith)
     (λ a. not_paying m i (rest (not (eqb r.id i) && eqb r.it.payer i) (pays_in m i) h) j d apart (rw a at at_j) q)
   where
@@ -331,9 +331,9 @@ not_paying (r ∷ m) i h j d apart at_j q = test (eqb r.id j)
 unpaid : (r : Registry) (i : ℕ) → Sound r → (i ≡ 1 → ⊥) → (is_budget r i && pays_for r i) ≡ false → Unpaid r i
 unpaid r i s not_root h j d at_j q = test (is_budget r i)
     (λ a. test (eqb i j)
-    (λ b. let e = eqb_true i j b in let low = (s.each j d at_j).lower (λ z. not_root (e ∙ z)) in omega arith)
-    (λ b. not_paying r.rows i (rw a at h) j d (eqb_false i j b) at_j q))
-    (λ a. eqb_false (kind_at r.rows i) 6 a (rw q (s.each j d at_j).paid))
+    (λ b. let e = eqb-true i j b in let low = (s.each j d at_j).lower (λ z. not_root (e ∙ z)) in omega arith)
+    (λ b. not_paying r.rows i (rw a at h) j d (eqb-false i j b) at_j q))
+    (λ a. eqb-false (kind_at r.rows i) 6 a (rw q (s.each j d at_j).paid))
 
 -- a budget that is no entry's payer can be returned
 unpaid_returnable : (r : Registry) (i : ℕ) (e y : Entry) → Sound r → ObjectEntry r i e y → (i ≡ 1 → ⊥) → Unpaid r i → Returnable y.account e.account
@@ -351,7 +351,7 @@ unpaid_returnable r i e y s O not_root u =
 
 returnable_shown : {a child : Account} → Returnable a child → returnable a child ≡ true
 unfolding returnable
-returnable_shown h = search (account_laws.both, le_leb, eq_eqb)
+returnable_shown h = search (account_laws.both, le-leb, eq-eqb)
 
 -- so a removal that passes questions 7, 9 and 10 passes question 15, and credits a live budget
 pub removal_passes : (i : ℕ) (r : Registry) → Sound r → has r i ≡ true → (i ≡ 1 → ⊥) → (is_budget r i && pays_for r i) ≡ false → Passed i r
@@ -365,7 +365,7 @@ removal_passes i r s a not_root idle =
     (subst (λ (x : Entry). Returnable y.account x.account) (sym O.read) (unpaid_returnable r i e y s O not_root (unpaid r i s not_root idle))) in
     record {
       payer_live = rw (payer, O.payer.here);
-      payer_budget = eq_eqb (entry r (payer_of r i)).kind 6 (ap (λ (x : Entry). x.kind) read ∙ O.payer.kind);
+      payer_budget = eq-eqb (entry r (payer_of r i)).kind 6 (ap (λ (x : Entry). x.kind) read ∙ O.payer.kind);
       payer_other = λ q. omega (arith, payer, q);
       passed = test (is_budget r i) (λ b. rw (b, returnable_shown returns)) (λ b. rw b);
       no_use = λ _. returns.no_use;
@@ -387,8 +387,8 @@ remove_cases P i t r s stay go =
     asked P (has r i) (stay 7 refl) λ a.
     asked P (not (eqb i 1)) (stay 9 refl) λ b.
     asked P (not (is_budget r i && pays_for r i)) (stay 10 refl) λ c.
-    let not_root = eqb_false i 1 (not_true (eqb i 1) b) in
-    let idle = not_true (is_budget r i && pays_for r i) c in
+    let not_root = eqb-false i 1 (not-true (eqb i 1) b) in
+    let idle = not-true (is_budget r i && pays_for r i) c in
     let (e, y, O) = live_object r i s a in
     subst (λ (x : Entry). P (accept none (removed r i x (release x t)))) (sym O.read) (go e y O not_root (unpaid r i s not_root idle))
 

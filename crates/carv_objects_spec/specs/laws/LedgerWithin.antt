@@ -38,7 +38,7 @@ under_root [] b c f h p = let o : ◌≡◌ {A = ℕ} 0 1 = cc in absurd (omega 
 under_root (x ∷ m) b c f h p = test (eqb x.id 1)
     (λ a. let z : some x.it ≡ some c = rw a at h in
     let w : x.it ≡ c = cc in
-    let gone : at m 1 ≡ none = rw (eqb_true x.id 1 a) at (none_behind x m f.0) in
+    let gone : at m 1 ≡ none = rw (eqb-true x.id 1 a) at (none_behind x m f.0) in
     rw (a, w, p, under_none m b 1 gone) (or_false (eqb 1 b)))
     (λ a. rw a (under_root m b c f.1 (rw a at h) p))
 
@@ -47,7 +47,7 @@ under_up [] b i c f h low = let o : ◌≡◌ {A = ℕ} 0 1 = cc in absurd (omeg
 under_up (x ∷ m) b i c f h low = test (eqb x.id i)
     (λ a. let z : some x.it ≡ some c = rw a at h in
     let w : x.it ≡ c = cc in
-    let q = eqb_true x.id i a in
+    let q = eqb-true x.id i a in
     rw (a, w, ne_eqb x.id c.parent (λ e. omega arith)))
     (λ a. let h' : at m i ≡ some c = rw a at h in
     let high = Table.at_all (λ j c. j < x.id) m f.0 i c h' in
@@ -56,9 +56,9 @@ under_up (x ∷ m) b i c f h low = test (eqb x.id i)
 pub under_is_within : (r : Registry) → Sound r → (m : List (Row Carved)) → Falling m → Listed r m → (b n i : ℕ) (e : Entry) → i ≤ n → BudgetEntry r i e → under m b i ≡ within r b i
 under_is_within r s m f L b zero i e l B = absurd (omega (arith, from_one r s i e B.here))
 under_is_within r s m f L b (suc n) i e l B = test (eqb i 1)
-    (λ a. let one = eqb_true i 1 a in
+    (λ a. let one = eqb-true i 1 a in
     rw one (under_root m b (row_of e) f (rw one at (L i e B.here B.kind)) ((s.each i e B.here).root one).1 ∙ sym (within_root r s b)))
-    (λ a. let low = (s.each i e B.here).lower (eqb_false i 1 a) in
+    (λ a. let low = (s.each i e B.here).lower (eqb-false i 1 a) in
     let (y, Y) = payer_at r s i e B.here in
     under_up m b i (row_of e) f (L i e B.here B.kind) low
     ∙ ap (λ (z : Bool). eqb i b || z) (under_is_within r s m f L b n e.payer y (omega arith) Y)

@@ -44,7 +44,7 @@ plain_listed : (r : Registry) (m : List (Row Carved)) (kind payer n : ℕ) (e : 
 plain_listed r m kind payer n e s B other L =
     let f : Account → Account = λ a. account.charge a n in
     add_at (budget payer f r) (plain kind payer n) (Table.rising_alter r.rows 1 r.next payer (on_account f) s.rising) (λ j d. d.kind ≡ 6 → at m j ≡ some (row_of d))
-    (λ q. absurd (eqb_false kind 6 other q)) (alter_listed r m payer e (on_account f) B.here (keeps_account f (λ a. refl)) L)
+    (λ q. absurd (eqb-false kind 6 other q)) (alter_listed r m payer e (on_account f) B.here (keeps_account f (λ a. refl)) L)
 
 -- a budget is added
 carve_listed : (r : Registry) (m : List (Row Carved)) (parent cpu memory t : ℕ) (e : Entry) → Sound r → BudgetEntry r parent e → Listed r m
@@ -55,7 +55,7 @@ carve_listed r m parent cpu memory t e s B L =
     let up = Table.rising_alter r.rows 1 r.next parent (on_account f) s.rising in
     add_at (budget parent f r) (carved parent cpu memory (renew e.account t)) up
     (λ j d. d.kind ≡ 6 → at (record { id = r.next; it = record { parent = parent; allowance = cpu } } ∷ m) j ≡ some (row_of d))
-    (λ q. rw (eq_eqb r.next r.next refl))
+    (λ q. rw (eq-eqb r.next r.next refl))
     (λ j d h q. rw (ne_eqb r.next j (λ z. absurd_at (budget parent f r).rows j d (rw z at (Table.at_above (budget parent f r).rows 1 r.next r.next up (omega arith))) h)) (L₁ j d h q))
   where
     absurd_at : (rows : List (Row Entry)) (j : ℕ) (d : Entry) → at rows j ≡ none → at rows j ≡ some d → ⊥

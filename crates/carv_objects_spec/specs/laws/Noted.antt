@@ -27,18 +27,18 @@ pub record Renews (x y : Budget) : Type 0 where
 
 pub renews : (t : ℕ) (x : Budget) → Renews x (renew t x)
 renews t x = test (due t x)
-    (λ d. let low = leb_true x.start t (first (leb x.start t) (leb period (t - x.start)) d) in
-    let long = leb_true period (t - x.start) (second (leb x.start t) (leb period (t - x.start)) d) in
+    (λ d. let low = leb-true x.start t (first (leb x.start t) (leb period (t - x.start)) d) in
+    let long = leb-true period (t - x.start) (second (leb x.start t) (leb period (t - x.start)) d) in
     let m = moved x.start t low long in
     rw d (record { later = omega arith; taken = rw (ne_eqb (t - (t - x.start) % period) x.start (λ q. omega arith)); carved = refl }))
-    (λ d. rw d (record { later = omega arith; taken = rw (eq_eqb x.start x.start refl); carved = refl }))
+    (λ d. rw d (record { later = omega arith; taken = rw (eq-eqb x.start x.start refl); carved = refl }))
 
 -- a renewal, with what doesn't show in it
 pub renews_so : (x w y : Budget) → Renews x w → y.start ≡ w.start → y.taken_cpu ≡ w.taken_cpu → y.carved_cpu ≡ w.carved_cpu → Renews x y
 renews_so x w y R s k v = record { later = omega (arith, R.later); taken = rw s (k ∙ R.taken); carved = v ∙ R.carved }
 
 pub renews_not : (x : Budget) → Renews x x
-renews_not x = record { later = omega arith; taken = rw (eq_eqb x.start x.start refl); carved = refl }
+renews_not x = record { later = omega arith; taken = rw (eq-eqb x.start x.start refl); carved = refl }
 
 pub renews_if : (b : Bool) (t : ℕ) (x : Budget) → Renews x (renew_if b t x)
 renews_if true t x = renews t x
@@ -48,9 +48,9 @@ renews_if false t x = renews_not x
 pub renews_again : (x y z : Budget) → Renews x y → Renews y z → Renews x z
 renews_again x y z f g = test (eqb z.start y.start)
     (λ a. let k : z.taken_cpu ≡ y.taken_cpu = g.taken ∙ ap (λ (b : Bool). cond b y.taken_cpu 0) a in
-    record { later = omega (arith, f.later, g.later); taken = k ∙ f.taken ∙ ap (λ (s : ℕ). cond (eqb s x.start) x.taken_cpu 0) (sym (eqb_true z.start y.start a)); carved = g.carved ∙ f.carved })
+    record { later = omega (arith, f.later, g.later); taken = k ∙ f.taken ∙ ap (λ (s : ℕ). cond (eqb s x.start) x.taken_cpu 0) (sym (eqb-true z.start y.start a)); carved = g.carved ∙ f.carved })
     (λ a. let k : z.taken_cpu ≡ 0 = g.taken ∙ ap (λ (b : Bool). cond b y.taken_cpu 0) a in
-    let apart = eqb_false z.start y.start a in
+    let apart = eqb-false z.start y.start a in
     let other = ne_eqb z.start x.start (λ q. apart (between x.start y.start z.start f.later g.later q)) in
     record { later = omega (arith, f.later, g.later); taken = k ∙ sym (ap (λ (b : Bool). cond b x.taken_cpu 0) other); carved = g.carved ∙ f.carved })
   where
@@ -69,10 +69,10 @@ nothing_booked x y c R = record { later = R.later; taken = omega (arith, R.taken
 
 pub altered_row : {A : Type 0} (m : List (Row A)) (j i : ℕ) (f : A → A) (x y : A) → at m i ≡ some x → at (alter j f m) i ≡ some y → cond (eqb j i) (f x) x ≡ y
 altered_row m j i f x y h k = test (eqb j i)
-    (λ a. let e = eqb_true j i a in
+    (λ a. let e = eqb-true j i a in
     let z : at (alter j f m) i ≡ some (f x) = rw e (Table.at_alter m i f x h) in
     rw a (some_same (f x) y (sym z ∙ k)))
-    (λ a. rw a (some_same x y (sym h ∙ sym (Table.at_alter_other m j i f (eqb_false j i a)) ∙ k)))
+    (λ a. rw a (some_same x y (sym h ∙ sym (Table.at_alter_other m j i f (eqb-false j i a)) ∙ k)))
   where
     some_same : {A : Type 0} (a b : A) → some a ≡ some b → a ≡ b
     some_same a b h = cc
@@ -107,8 +107,8 @@ behind (r ∷ m) n i b x h = test (eqb r.id i) (λ a. rw a) (λ a. rw a (behind 
 -- an alteration finds what is there
 missing_still : (m : List (Row Budget)) (j i : ℕ) (f : Budget → Budget) → at m i ≡ none → at (alter j f m) i ≡ none
 missing_still m j i f h = test (eqb j i)
-    (λ a. rw (eqb_true j i a) (alter_missing m i f h))
-    (λ a. Table.at_alter_other m j i f (eqb_false j i a) ∙ h)
+    (λ a. rw (eqb-true j i a) (alter_missing m i f h))
+    (λ a. Table.at_alter_other m j i f (eqb-false j i a) ∙ h)
   where
     alter_missing : (m : List (Row Budget)) (i : ℕ) (f : Budget → Budget) → at m i ≡ none → at (alter i f m) i ≡ none
     alter_missing [] i f h = refl
@@ -127,8 +127,8 @@ accepted_noted (create_budget parent cpu memory time) k l i up = λ x y h g.
     let there : at (alter parent f k.budgets) i ≡ some y =
     test (eqb parent i)
     (λ a. let s = Table.at_alter k.budgets i f x h in
-    sym (behind (alter parent f k.budgets) k.next i (new_budget cpu memory (renew time (budget_of k parent)).start) (f x) (rw (eqb_true parent i a) s)) ∙ g)
-    (λ a. let s = Table.at_alter_other k.budgets parent i f (eqb_false parent i a) ∙ h in
+    sym (behind (alter parent f k.budgets) k.next i (new_budget cpu memory (renew time (budget_of k parent)).start) (f x) (rw (eqb-true parent i a) s)) ∙ g)
+    (λ a. let s = Table.at_alter_other k.budgets parent i f (eqb-false parent i a) ∙ h in
     sym (behind (alter parent f k.budgets) k.next i (new_budget cpu memory (renew time (budget_of k parent)).start) x s) ∙ g) in
     spent_of k i (charged_to l.charges i) parent time cpu 0 f (on_budget parent f k) (charged_to l.charges i) refl
     (test (eqb parent i) (λ a. rw a (omega arith)) (λ a. rw a (omega arith)))
@@ -138,11 +138,11 @@ accepted_noted (charge_more j bytes) k l i up =
 accepted_noted (uncharge j bytes) k l i up =
     changed k i _ (object_of k j).payer (credit bytes) (accepted (uncharge j bytes) k) refl (λ x. renews_so x x (credit bytes x) (renews_not x) refl refl refl)
 accepted_noted (remove j time) k l i up = λ x y h g. test (eqb j i)
-    (λ a. let q = eqb_true j i a in
+    (λ a. let q = eqb-true j i a in
     let gone : at (alter (object_of k j).payer f (erase j k.budgets)) i ≡ none =
     missing_still (erase j k.budgets) (object_of k j).payer i f (rw (← q) (Table.at_erase k.budgets 1 k.next j up)) in
     let z : ◌≡◌ {A = ℕ} 0 1 = cc in absurd (omega arith))
-    (λ a. let still : at (remove_object j k).budgets i ≡ some x = Table.at_erase_other k.budgets j i (eqb_false j i a) ∙ h in
+    (λ a. let still : at (remove_object j k).budgets i ≡ some x = Table.at_erase_other k.budgets j i (eqb-false j i a) ∙ h in
     changed (remove_object j k) i (charged_to l.charges i) (object_of k j).payer f (accepted (remove j time) k) refl
     (λ b. renews_so b (renew_if (is_live k j) time b) (f b) (renews_if (is_live k j) time b) refl refl refl) x y still g)
   where

@@ -117,7 +117,7 @@ release_held a e t true h S within empty =
       record { whole = S'.whole; before = S'.before },
       omega (arith, N.held, held_now (t / period) (renew a t) N.start, held_now (t / period) x N.start, (account_laws.renewal a t).cpu_reserved),
     )
-release_held a e t false h S within empty = rw (empty refl, sub_zero a.cpu_reserved) (record { whole = S.whole; before = S.before }, omega arith)
+release_held a e t false h S within empty = rw (empty refl, sub-zero a.cpu_reserved) (record { whole = S.whole; before = S.before }, omega arith)
 
 remove_balanced : (r : Registry) (l : Ledger) (i t : ℕ) (e y : Entry) → Sound r → ObjectEntry r i e y → (i ≡ 1 → ⊥) → Balanced r l t → Balanced (removed r i e (release e t)) l t
 remove_balanced r l i t e y s O not_root W =

@@ -50,8 +50,8 @@ pub record Fits (ids : ℕ) (r : Registry) : Type 0 where
 pub limit_below_root : (r : Registry) → Sound r → (n i : ℕ) (e : Entry) → i < n → at r.rows i ≡ some e → e.account.memory_limit ≤ (account_of r 1).memory_limit
 limit_below_root r s zero i e h q = absurd (omega arith)
 limit_below_root r s (suc n) i e h q = test (eqb i 1)
-    (λ d. let q' : at r.rows 1 ≡ some e = rw (eqb_true i 1 d) at q in rw (ap or_missing q', account_of) (omega arith))
-    (λ d. let not_root = eqb_false i 1 d in
+    (λ d. let q' : at r.rows 1 ≡ some e = rw (eqb-true i 1 d) at q in rw (ap or_missing q', account_of) (omega arith))
+    (λ d. let not_root = eqb-false i 1 d in
     let (y, B) = budget_entry r e.payer (s.each i e q).paid in
     let O : ObjectEntry r i e y = record { here = q; read = ap or_missing q; payer = B } in
     let low = (s.each i e q).lower not_root in
@@ -124,7 +124,7 @@ charged_passes : (p n : ℕ) (r : Registry) (cs : Registry → List Check)
     → AllPass (if_ok (rust.charge p n r).result (cs (rust.charge p n r).self))
 unfolding rust.charge
 charged_passes p n r cs h = look (rust.budget_mut p r) (λ q. rw q tt)
-    (λ a q. rw (q, charge_memory_by a n) (test (leb n (free a)) (λ f. rw f (h a q (leb_true n (free a) f))) (λ f. rw f tt)))
+    (λ a q. rw (q, charge_memory_by a n) (test (leb n (free a)) (λ f. rw f (h a q (leb-true n (free a) f))) (λ f. rw f tt)))
 
 insert_passes : (p n : ℕ) (r : Registry) → Payer p r → r.next + 1 < 2 ^ 64 → AllPass (panics.insert p n r)
 insert_passes p n r g h = both_pass (panics.charge p n r) _ (charge_passes p n r g) (charged_passes p n r (λ s. sum s.next 1 ∷ []) λ a q f. (h, tt))
@@ -145,7 +145,7 @@ module _ (p n : ℕ) (r : Registry) (a : Account) (q : rust.budget_mut p r ≡ s
 
   credited : rust.credit p n charged ≡ rust.write_budget p a charged
   unfolding rust.credit
-  credited = rw (written p r a (charge a n) q, release_memory_by (charge a n) n, le_leb n (charge a n).memory_used (omega arith), add_sub_cancel)
+  credited = rw (written p r a (charge a n) q, release_memory_by (charge a n) n, le-leb n (charge a n).memory_used (omega arith), add-sub_cancel)
 
   credited_payer : Good a → Payer p (rust.credit p n charged)
   credited_payer g b h =
@@ -192,7 +192,7 @@ module _ (r : Registry) (s : Sound r) (w : (account_of r 1).memory_limit < 2 ^ 6
       both_pass (panics.charge e.payer n r) _ (charge_passes e.payer n r (good_payer e.payer))
       (charged_passes e.payer n r (panics.raise i n) λ a q f.
       let (y, B) = behind (at r.rows e.payer) a q in
-      let P : BudgetEntry r e.payer y = record { here = B.here; kind = eqb_true y.kind 6 B.kind; read = ap or_missing B.here } in
+      let P : BudgetEntry r e.payer y = record { here = B.here; kind = eqb-true y.kind 6 B.kind; read = ap or_missing B.here } in
       let O : ObjectEntry r i e y = record { here = here; read = ap or_missing here; payer = P } in
       let k : e.charge ≤ a.memory_used = subst (λ (x : Account). e.charge ≤ x.memory_used) B.account (charge_within r i e y s O) in
       let g = account_laws.sound_told (good_payer e.payer a q).sound in
@@ -205,7 +205,7 @@ module _ (r : Registry) (s : Sound r) (w : (account_of r 1).memory_limit < 2 ^ 6
   remove_passes : (i now : ℕ) → AllPass (panics.remove i now r)
   remove_passes i now = picks AllPass (eqb i 1) _ _ (λ _. tt) λ d.
       some_pass (rust.get i r) _ λ e here.
-      let low = (s.each i e here).lower (eqb_false i 1 d) in
+      let low = (s.each i e here).lower (eqb-false i 1 d) in
       let other = Table.at_erase_other r.rows i e.payer (λ h. omega arith) in
       picks AllPass (rust.is_budget e && rust.pays_for_anything i r) _ _ (λ _. tt) λ _. (
         ap panics.is_some here,
@@ -243,7 +243,7 @@ create_budget_room : (p cpu memory time : ℕ) (r : Registry) → Room r (r01.cr
 create_budget_room p cpu memory time r = asked (Room r) (has_place r) (λ h. cc) λ _. asked (Room r) (has_next r) (λ h. cc) λ d _. d
 
 next_rises : (r : Registry) → has_next r ≡ true → r.next + 1 < 2 ^ 64
-next_rises r d = omega (arith, ltb_true r.next _ d)
+next_rises r d = omega (arith, ltb-true r.next _ d)
 
 -- one call
 pub call_passes : (c : Call) (ids : ℕ) (r : Registry) → Sound r → Fits ids r → is_added c (run c r).number ≡ false → AllPass (checks c ids r)
@@ -276,7 +276,7 @@ limit_alter : (m : List (Row Entry)) (i p : ℕ) (g : Entry → Entry) → ((e :
     → limit_at (alter i g m) p ≡ limit_at m p
 limit_alter [] i p g h = refl
 limit_alter (r ∷ m) i p g h = test (eqb r.id i)
-    (λ a. let q = eqb_true r.id i a in rw (a, q)
+    (λ a. let q = eqb-true r.id i a in rw (a, q)
     (test (eqb i p) (λ b. rw (b, limit_at) (h r.it)) (λ b. rw (b, limit_at))))
     (λ a. rw a (test (eqb r.id p) (λ b. rw (b, limit_at)) (λ b. rw (b, limit_at) (limit_alter m i p g h))))
 
@@ -365,7 +365,7 @@ no_panics (c ∷ cs) ids r s f n = (
 
 pub new_passes : (cpu memory : ℕ) → cpu ≤ period → AllPass (panics.new 1 cpu memory)
 new_passes cpu memory h =
-    both_pass (budget_panics.new 1 cpu period memory 0) _ (budget_laws.new_passes 1 cpu memory 0 (omega arith)) (rw (le_ltb period cpu h) (refl, tt))
+    both_pass (budget_panics.new 1 cpu period memory 0) _ (budget_laws.new_passes 1 cpu memory 0 (omega arith)) (rw (le-ltb period cpu h) (refl, tt))
 
 -- From an opening whose root is the first budget made, so that it takes the counter's 1: neither the opening nor a call behind it panics.
 pub opening_no_panics : (cpu memory : ℕ) → cpu ≤ period → memory < 2 ^ 64 → (cs : List Call) → NoneAdded cs (r01.opening cpu memory)

@@ -28,8 +28,8 @@ use Rattle.carv_objects_spec.specs.laws.Refines.{remove_rust, remove_carv_os}
 pub question_15_passed : (i : ℕ) (r : Registry) → sound r ≡ true → reaches_15 i r ≡ true → Passed i r
 question_15_passed i r s h =
     let h' = first (has r i && not (eqb i 1)) _ h in
-    removal_passes i r (sound_told r s) (first (has r i) _ h') (eqb_false i 1 (not_true (eqb i 1) (second (has r i) _ h')))
-    (not_true (is_budget r i && pays_for r i) (second (has r i && not (eqb i 1)) _ h))
+    removal_passes i r (sound_told r s) (first (has r i) _ h') (eqb-false i 1 (not-true (eqb i 1) (second (has r i) _ h')))
+    (not-true (is_budget r i && pays_for r i) (second (has r i && not (eqb i 1)) _ h))
 
 -- The same in plain words: an object that is there, is not the root, and as a budget pays for nothing.
 module _ (i : ℕ) (r : Registry) (there : has r i ≡ true) (not_root : i ≡ 1 → ⊥) (pays_nothing : is_budget r i ≡ true → pays_for r i ≡ false) where
@@ -81,7 +81,7 @@ went_through (rust.err rust.out_of_memory) self h = absurd (omega (arith, h))
 -- no account is due at 0
 not_due_at_0 : (a : Account) → account.due a 0 ≡ false
 unfolding account.due
-not_due_at_0 a = test (leb a.period_start 0) (λ q. rw (q, lt_leb account.period (0 - a.period_start) (omega arith))) (λ q. rw q)
+not_due_at_0 a = test (leb a.period_start 0) (λ q. rw (q, lt-leb account.period (0 - a.period_start) (omega arith))) (λ q. rw q)
 
 -- both are this removal, carv-os' own at 0
 both_told : (i time : ℕ) (r : Registry) → sound r ≡ true
@@ -97,7 +97,7 @@ pub rust_goes_through : (i time : ℕ) (r : Registry) → sound r ≡ true → r
 rust_goes_through i time r s h = let (renewing, own) = both_told i time r s in (by (rust.remove i time r) time renewing, by (rust.remove_unrenewed i r) 0 own)
   where
     by : (z : rust.Call (Unit {0})) (t : ℕ) → (remove i t r).number ≡ (reply_of nothing 15 z).number → z.result ≡ rust.ok tt
-    by z t e = went_through z.result z.self (sym e ∙ eqb_true (remove i t r).number 0 (accepted_exactly i t r ∙ h))
+    by z t e = went_through z.result z.self (sym e ∙ eqb-true (remove i t r).number 0 (accepted_exactly i t r ∙ h))
 
 pub rust_returns : (i time : ℕ) (r : Registry) → sound r ≡ true
     → ((rust.remove i time r).result ≡ rust.err rust.invalid_method → ⊥) × ((rust.remove_unrenewed i r).result ≡ rust.err rust.invalid_method → ⊥)

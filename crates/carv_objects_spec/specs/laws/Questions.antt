@@ -19,7 +19,7 @@ module _ (kind payer bytes : ℕ) (r : Registry) where
 
   module _ (a : listed kind ≡ true) where
     pub insert_kind : kind ≡ 6 → insert kind payer bytes r ≡ refuse 4 r
-    insert_kind b = rw (a, eq_eqb kind 6 b)
+    insert_kind b = rw (a, eq-eqb kind 6 b)
 
     module _ (b : kind ≡ 6 → ⊥) where
       pub insert_full : (has_place r && has_next r) ≡ false → insert kind payer bytes r ≡ refuse 6 r
@@ -116,7 +116,7 @@ module _ (i time : ℕ) (r : Registry) where
 
   module _ (a : has r i ≡ true) where
     pub remove_root : i ≡ 1 → remove i time r ≡ refuse 9 r
-    remove_root b = rw (a, eq_eqb i 1 b)
+    remove_root b = rw (a, eq-eqb i 1 b)
 
     module _ (b : i ≡ 1 → ⊥) where
       pub remove_paying : is_budget r i ≡ true → pays_for r i ≡ true → remove i time r ≡ refuse 10 r

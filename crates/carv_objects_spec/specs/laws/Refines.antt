@@ -31,7 +31,7 @@ put_last : {A : Type 0} (m : List (Row A)) (l n i : ℕ) (a : A) → Rising l n 
 put_last [] l n i a u h = refl
 put_last (r ∷ m) l n i a u h =
     let k = rising_le m (suc r.id) n u.1 in
-    rw (ne_eqb r.id i (λ q. omega arith), le_ltb i r.id (omega arith)) (ap (◌∷◌ r) (put_last m (suc r.id) n i a u.1 h))
+    rw (ne_eqb r.id i (λ q. omega arith), le-ltb i r.id (omega arith)) (ap (◌∷◌ r) (put_last m (suc r.id) n i a u.1 h))
 
 -- Budgets. `write` is what the Rust leaves behind `budget_mut`.
 
@@ -72,10 +72,10 @@ module _ (p : ℕ) (r : Registry) (live : is_budget r p ≡ true) where
   credit_written x n = rw (budget_written x) (write_write p x _ r)
 
 released : (x : Account) (n : ℕ) → n ≤ x.memory_used → (budget.release_memory x n).self ≡ account.credit x n
-released x n h = rw (release_memory_by x n, le_leb n x.memory_used h)
+released x n h = rw (release_memory_by x n, le-leb n x.memory_used h)
 
 credit_charged : (p n : ℕ) (r : Registry) (a : Account) → is_budget r p ≡ true → rust.credit p n (write p (account.charge a n) r) ≡ write p a r
-credit_charged p n r a l = rw (credit_written p r l (account.charge a n) n, released (account.charge a n) n (omega arith), add_sub_cancel)
+credit_charged p n r a l = rw (credit_written p r l (account.charge a n) n, released (account.charge a n) n (omega arith), add-sub_cancel)
 
 -- `charge(..)?` and what follows, the payer charged: question 12 where the payer is there, questions 7 and 12 else
 module _ {A : Type 0} (value : A → Option Value) (invalid p n : ℕ) (r : Registry) (k : Unit {0} → Registry → Call A) (x : RegistryReply) where
@@ -104,7 +104,7 @@ skip n false r a h p = cc
 
 -- the next id's entry stands last
 stored : (e : Entry) (s : Registry) → Rising 1 s.next s.rows → accept (an_id s.next) (add e s) ≡ reply_of an_id 13 (rust.store e s)
-stored e s u = rw (put_last s.rows 1 s.next s.next e u (omega arith), add_one)
+stored e s u = rw (put_last s.rows 1 s.next s.next e u (omega arith), add-one)
 
 -- a step of the payer's account, and an entry more
 inserted : (e : Entry) (p : ℕ) (f : Account → Account) (r : Registry) → Rising 1 r.next r.rows → is_budget r p ≡ true
@@ -186,13 +186,13 @@ look (some e) f g = g refl
 -- of an entry of a sound registry: its payer is a budget, whose account covers its charge
 module _ (r : Registry) (s : Sound r) (i : ℕ) (q : at r.rows i ≡ some (entry r i)) where
   payer_there : is_budget r (payer_of r i) ≡ true
-  payer_there = eq_eqb (entry r (payer_of r i)).kind 6 (s.each i (entry r i) q).paid
+  payer_there = eq-eqb (entry r (payer_of r i)).kind 6 (s.each i (entry r i) q).paid
 
   covered : (entry r i).charge ≤ (account_of r (payer_of r i)).memory_used
   covered =
       let p : ℕ = payer_of r i in
       let t : charge_by p i (entry r i) ≤ total (charge_by p) r.rows = total_at (charge_by p) r.rows i (entry r i) q in
-      let t' : (entry r i).charge ≤ total (charge_by p) r.rows = rw (eq_eqb p p refl) at t in
+      let t' : (entry r i).charge ≤ total (charge_by p) r.rows = rw (eq-eqb p p refl) at t in
       omega (arith, (s.each p (entry r p) (there (at r.rows p) payer_there)).used)
 
 pub charge_more_rust : (i bytes : ℕ) (r : Registry) → Sound r → r01.charge_more i bytes r ≡ reply_of nothing 13 (rust.charge_more i bytes r)
@@ -209,7 +209,7 @@ recharge f e = rust.set_charged (f e.charge) e
 charge_aside : (m : List (Row Entry)) (i p : ℕ) (f : ℕ → ℕ) → rust.budget_of (at (alter i (recharge f) m) p) ≡ rust.budget_of (at m p)
 charge_aside [] i p f = refl
 charge_aside (r ∷ m) i p f = test (eqb r.id i)
-    (λ e. rw (e, ← eqb_true r.id i e) (test (eqb r.id p) (λ d. rw d) (λ d. rw d)))
+    (λ e. rw (e, ← eqb-true r.id i e) (test (eqb r.id p) (λ d. rw d) (λ d. rw d)))
     (λ e. rw e (test (eqb r.id p) (λ d. rw d) (λ d. rw d (charge_aside m i p f))))
 
 -- the Rust lowers the entry and credits the payer, 01 the other way round
@@ -225,12 +225,12 @@ pub uncharge_rust : (i bytes : ℕ) (r : Registry) → Sound r → added_to_unch
 uncharge_rust i bytes r s = look (at r.rows i) (λ q. rw q (λ p. cc)) λ q.
     rw q (test (leb bytes (entry r i).charge)
     (λ h. rw h λ _. ap (λ (t : Registry). accept {A = Value} none t)
-    (credit_aside (payer_of r i) bytes i (λ c. c - bytes) r (payer_there r s i q) (omega (arith, covered r s i q, leb_true bytes (entry r i).charge h))))
+    (credit_aside (payer_of r i) bytes i (λ c. c - bytes) r (payer_there r s i q) (omega (arith, covered r s i q, leb-true bytes (entry r i).charge h))))
     (λ h. rw h (λ p. cc)))
 
 -- a return of nothing
 pub return_blank : (a : Account) → account.return a account.blank ≡ a
-return_blank a = rw (sub_zero a.cpu_reserved, sub_zero a.memory_reserved)
+return_blank a = rw (sub-zero a.cpu_reserved, sub-zero a.memory_reserved)
 
 -- an entry taken out, not the root's: its payer stays, so that its charge is credited there
 module _ (r : Registry) (s : Sound r) (i : ℕ) (q : at r.rows i ≡ some (entry r i)) (d : eqb i 1 ≡ false) where
@@ -241,7 +241,7 @@ module _ (r : Registry) (s : Sound r) (i : ℕ) (q : at r.rows i ≡ some (entry
   left = drop i r
 
   stays : at (erase i r.rows) (payer_of r i) ≡ at r.rows (payer_of r i)
-  stays = let h = (s.each i (entry r i) q).lower (eqb_false i 1 d) in at_erase_other r.rows i (payer_of r i) (λ w. omega arith)
+  stays = let h = (s.each i (entry r i) q).lower (eqb-false i 1 d) in at_erase_other r.rows i (payer_of r i) (λ w. omega arith)
 
   still_budget : is_budget left payer ≡ true
   still_budget = ap (λ (o : Option Entry). eqb (or_missing o).kind 6) stays ∙ payer_there r s i q
@@ -303,7 +303,7 @@ remove_rust i time r s = look (at r.rows i)
     (λ b. test (r01.pays_for r i)
     (λ w. let w' = sym (pays_is i r.rows) ∙ w in rw (b, w, w'))
     (λ w. let w' = sym (pays_is i r.rows) ∙ w in
-    let t = removal_returnable r i s (ap r01.found q) (eqb_false i 1 d) b w in rw (b, w, w') (returned r s i q d time t)))
+    let t = removal_returnable r i s (ap r01.found q) (eqb-false i 1 d) b w in rw (b, w, w') (returned r s i q d time t)))
     (λ b. rw b (ap (λ (x : Registry). accept {A = Value} none x) (plain_credited r s i q d b))))))
 
 -- P2 changes nothing else: where no budget is removed, or one whose payer is not due, that is carv-os' own removal
@@ -316,7 +316,7 @@ remove_unrenewed_is i time r s h = look (at r.rows i) (λ q. rw q)
     (λ b. test (r01.pays_for r i)
     (λ w. let w' = sym (pays_is i r.rows) ∙ w in rw (b, w'))
     (λ w. let w' = sym (pays_is i r.rows) ∙ w in
-    let accepted = ap (λ (z : r01.RegistryReply). z.number) (asks.remove_budget i time r (ap r01.found q) (eqb_false i 1 d) b w) in
+    let accepted = ap (λ (z : r01.RegistryReply). z.number) (asks.remove_budget i time r (ap r01.found q) (eqb-false i 1 d) b w) in
     rw (b, w') (not_due r s i q d time (h accepted b))))
     (λ b. rw b))))
 
@@ -329,7 +329,7 @@ remove_carv_os i time r s h = remove_rust i time r s ∙ ap (reply_of nothing 15
 pays_aside : (i p : ℕ) (x : Account) (m : List (Row Entry)) → r01.pays_in (alter p (rust.set_budget x) m) i ≡ r01.pays_in m i
 pays_aside i p x [] = refl
 pays_aside i p x (r ∷ m) = test (eqb r.id p)
-    (λ e. rw (e, ← eqb_true r.id p e))
+    (λ e. rw (e, ← eqb-true r.id p e))
     (λ e. rw e (ap (λ (b : Bool). (not (eqb r.id i) && eqb r.it.payer i) || b) (pays_aside i p x m)))
 
 refilled_is : (p time : ℕ) (r : Registry) → is_budget r p ≡ true → (rust.refill p time r).self ≡ write p (account.renew (account_of r p) time) r
@@ -338,7 +338,7 @@ refilled_is p time r l = rw (budget_mut_is p r, l, refill_renews)
 module _ (r : Registry) (s : Sound r) (i : ℕ) (q : at r.rows i ≡ some (entry r i)) (d : eqb i 1 ≡ false) (time : ℕ)
     (t : account.returnable (account_of r (payer_of r i)) (account_of r i) ≡ true) where
   apart : i ≡ payer_of r i → ⊥
-  apart w = let h = (s.each i (entry r i) q).lower (eqb_false i 1 d) in omega arith
+  apart w = let h = (s.each i (entry r i) q).lower (eqb-false i 1 d) in omega arith
 
   abbrev refilled : Registry
   refilled = write (payer_of r i) (account.renew (account_of r (payer_of r i)) time) r
@@ -384,7 +384,7 @@ remove_refilled i time r s b n = look (at r.rows i)
     λ q. test (eqb i 1) (λ d. let z : 9 ≡ 0 = rw (q, d) at n in absurd (omega arith)) λ d.
     test (r01.pays_for r i) (λ w. let z : 10 ≡ 0 = rw (q, d, b, w) at n in absurd (omega arith)) λ w.
     let w' = sym (pays_is i r.rows) ∙ w in
-    let t = removal_returnable r i s (ap r01.found q) (eqb_false i 1 d) b w in
+    let t = removal_returnable r i s (ap r01.found q) (eqb-false i 1 d) b w in
     let x = account.renew (account_of r (payer_of r i)) time in
     let v = sym (pays_is i (write (payer_of r i) x r).rows) ∙ pays_aside i (payer_of r i) x r.rows ∙ w in
     rw (refilled_is (payer_of r i) time r (payer_there r s i q), same_entry r s i q d time t, q, d, b, w', v) (both_returned r s i q d time t)
@@ -415,4 +415,4 @@ pub read_totals_rust : (i : ℕ) (r : Registry) → without_answer (read_totals 
 read_totals_rust i r = test (is_budget r i) (λ l. rw l) (λ l. rw l)
 
 pub opening_rust : (cpu memory : ℕ) → cpu ≤ account.period → r01.opening cpu memory ≡ rust.new cpu memory
-opening_rust cpu memory h = rw (le_ltb account.period cpu h)
+opening_rust cpu memory h = rw (le-ltb account.period cpu h)

@@ -104,7 +104,7 @@ module _ (r : Registry) (k : Book) (i : ℕ) where
     live_in_book e here six = go (at k.budgets i) refl
       where
         live : is_live k i ≡ true
-        live = same ∙ ap (λ (o : Option Entry). eqb (or_missing o).kind 6) here ∙ eq_eqb e.kind 6 six
+        live = same ∙ ap (λ (o : Option Entry). eqb (or_missing o).kind 6) here ∙ eq-eqb e.kind 6 six
 
         go : (o : Option Budget) → at k.budgets i ≡ o → (b : Budget) × Live r k i e.account b
         go none q = absurd (false≢true (sym (ap book.is_some q) ∙ live))
@@ -119,7 +119,7 @@ module _ (r : Registry) (k : Book) (i : ℕ) where
         go : (o : Option Entry) → at r.rows i ≡ o → (a : Account) × Live r k i a b
         go none q = absurd (false≢true (sym (ap (λ (o : Option Entry). eqb (or_missing o).kind 6) q) ∙ live))
         go (some e) q =
-            let six = eqb_true e.kind 6 (sym (ap (λ (o : Option Entry). eqb (or_missing o).kind 6) q) ∙ live) in
+            let six = eqb-true e.kind 6 (sym (ap (λ (o : Option Entry). eqb (or_missing o).kind 6) q) ∙ live) in
             (e.account, record { payer = e.payer; charge = e.charge; in_registry = six_is e q six; in_book = here })
 
 -- Lists: each call is made on the registry that the one before left, and the book is written from the call and its refusal number.

@@ -41,14 +41,14 @@ module _ {A : Type 0} where
   every_shown p (r ∷ m) h = rw (h.0, every_shown p m h.1)
 
   pub rises_told : (m : List (Row A)) (l n : ℕ) → rises l n m ≡ true → Rising l n m
-  rises_told [] l n h = leb_true l n h
+  rises_told [] l n h = leb-true l n h
   rises_told (r ∷ m) l n h = test (leb l r.id)
-      (λ a. (leb_true l r.id a, rises_told m (suc r.id) n (rw a at h)))
+      (λ a. (leb-true l r.id a, rises_told m (suc r.id) n (rw a at h)))
       (λ a. absurd (false≢true (rw a at h)))
 
   pub rises_shown : (m : List (Row A)) (l n : ℕ) → Rising l n m → rises l n m ≡ true
-  rises_shown [] l n h = le_leb l n h
-  rises_shown (r ∷ m) l n h = rw (le_leb l r.id h.0, rises_shown m (suc r.id) n h.1)
+  rises_shown [] l n h = le-leb l n h
+  rises_shown (r ∷ m) l n h = rw (le-leb l r.id h.0, rises_shown m (suc r.id) n h.1)
 
 -- an account of zeros is the blank one
 pub blank_told : (a : Account) → is_blank a ≡ true → a ≡ account.blank
@@ -57,13 +57,13 @@ blank_told a h =
     eqb a.cpu_allowance 0 ∷ eqb a.memory_limit 0 ∷ eqb a.period_start 0 ∷ eqb a.cpu_left 0 ∷ eqb a.cpu_reserved 0
     ∷ eqb a.memory_used 0 ∷ eqb a.memory_reserved 0 ∷ []) h in
     λ i. record {
-      cpu_allowance = eqb_true a.cpu_allowance 0 c i;
-      memory_limit = eqb_true a.memory_limit 0 m i;
-      period_start = eqb_true a.period_start 0 s i;
-      cpu_left = eqb_true a.cpu_left 0 l i;
-      cpu_reserved = eqb_true a.cpu_reserved 0 x i;
-      memory_used = eqb_true a.memory_used 0 u i;
-      memory_reserved = eqb_true a.memory_reserved 0 y i;
+      cpu_allowance = eqb-true a.cpu_allowance 0 c i;
+      memory_limit = eqb-true a.memory_limit 0 m i;
+      period_start = eqb-true a.period_start 0 s i;
+      cpu_left = eqb-true a.cpu_left 0 l i;
+      cpu_reserved = eqb-true a.cpu_reserved 0 x i;
+      memory_used = eqb-true a.memory_used 0 u i;
+      memory_reserved = eqb-true a.memory_reserved 0 y i;
     }
 
 -- the account of a sound entry passes question 1 alone
@@ -78,15 +78,15 @@ entry_told m i e h =
     record {
       code = code;
       plain = λ k. blank_told a (either (eqb e.kind 6) (is_blank a) plain k);
-      root = λ q. (let p = rw (eq_eqb i 1 q) at place in
+      root = λ q. (let p = rw (eq-eqb i 1 q) at place in
           let k = account_laws.first (eqb e.kind 6) (eqb e.payer 1) p in
           let l = account_laws.second (eqb e.kind 6) (eqb e.payer 1) p in
-          (eqb_true e.kind 6 k, eqb_true e.payer 1 l));
-      lower = λ q. ltb_true e.payer i (rw (ne_eqb i 1 q) at place);
-      paid = eqb_true (kind_at m e.payer) 6 paid;
-      used = eqb_true a.memory_used (total (charge_by i) m) used;
-      memory_reserved = eqb_true a.memory_reserved (total (memory_by i) m) memory;
-      cpu_reserved = eqb_true a.cpu_reserved (total (cpu_by i) m) cpu;
+          (eqb-true e.kind 6 k, eqb-true e.payer 1 l));
+      lower = λ q. ltb-true e.payer i (rw (ne_eqb i 1 q) at place);
+      paid = eqb-true (kind_at m e.payer) 6 paid;
+      used = eqb-true a.memory_used (total (charge_by i) m) used;
+      memory_reserved = eqb-true a.memory_reserved (total (memory_by i) m) memory;
+      cpu_reserved = eqb-true a.cpu_reserved (total (cpu_by i) m) cpu;
       memory = s.memory;
       cpu = s.cpu;
       share = s.share;
@@ -97,21 +97,21 @@ entry_shown m i e F =
     let a = e.account in
     let plain : (eqb e.kind 6 || is_blank a) ≡ true = test (eqb e.kind 6) (λ k. rw k) (λ k. rw (k, F.plain k)) in
     let place : cond (eqb i 1) (eqb e.kind 6 && eqb e.payer 1) (ltb e.payer i) ≡ true = test (eqb i 1)
-    (λ k. let (x, y) = F.root (eqb_true i 1 k) in rw (k, eq_eqb e.kind 6 x, eq_eqb e.payer 1 y))
-    (λ k. rw k (lt_ltb e.payer i (F.lower (eqb_false i 1 k)))) in
-    let paid = eq_eqb (kind_at m e.payer) 6 F.paid in
-    let used = eq_eqb a.memory_used (total (charge_by i) m) F.used in
-    let memory = eq_eqb a.memory_reserved (total (memory_by i) m) F.memory_reserved in
-    let cpu = eq_eqb a.cpu_reserved (total (cpu_by i) m) F.cpu_reserved in
+    (λ k. let (x, y) = F.root (eqb-true i 1 k) in rw (k, eq-eqb e.kind 6 x, eq-eqb e.payer 1 y))
+    (λ k. rw k (lt-ltb e.payer i (F.lower (eqb-false i 1 k)))) in
+    let paid = eq-eqb (kind_at m e.payer) 6 F.paid in
+    let used = eq-eqb a.memory_used (total (charge_by i) m) F.used in
+    let memory = eq-eqb a.memory_reserved (total (memory_by i) m) F.memory_reserved in
+    let cpu = eq-eqb a.cpu_reserved (total (cpu_by i) m) F.cpu_reserved in
     all_shown (entry_tests m i e) (F.code, (plain, (place, (paid, (used, (memory, (cpu, (account_sound F, tt))))))))
 
 pub sound_told : (r : Registry) → sound r ≡ true → Sound r
 sound_told r h =
     let (few, (rising, (root, (each, z)))) = all_told (registry_tests r) h in
     record {
-      few = leb_true (length r.rows) 512 few;
+      few = leb-true (length r.rows) 512 few;
       rising = rises_told r.rows 1 r.next rising;
-      root = eqb_true (kind_at r.rows 1) 6 root;
+      root = eqb-true (kind_at r.rows 1) 6 root;
       each = λ i e at_i. entry_told r.rows i e
           (Table.at_all (λ i e. all (entry_tests r.rows i e) ≡ true) r.rows
           (every_told (λ i e. all (entry_tests r.rows i e)) r.rows each) i e at_i);
@@ -123,6 +123,6 @@ sound_shown r s =
     (Table.all_at (λ i e. all (entry_tests r.rows i e) ≡ true) r.rows 1 r.next s.rising
     (λ i e h. entry_shown r.rows i e (s.each i e h))) in
     all_shown (registry_tests r) (
-      le_leb (length r.rows) 512 s.few,
-      (rises_shown r.rows 1 r.next s.rising, (eq_eqb (kind_at r.rows 1) 6 s.root, (each, tt))),
+      le-leb (length r.rows) 512 s.few,
+      (rises_shown r.rows 1 r.next s.rising, (eq-eqb (kind_at r.rows 1) 6 s.root, (each, tt))),
     )

@@ -30,7 +30,7 @@ abbrev pub held : (p : ℕ) → Account → ℕ
 held p a = cond (eqb a.period_start (p * period)) (a.cpu_left + a.cpu_reserved) a.cpu_allowance
 
 pub held_now : (p : ℕ) (a : Account) → a.period_start ≡ p * period → held p a ≡ a.cpu_left + a.cpu_reserved
-held_now p a h = rw (eq_eqb a.period_start (p * period) h)
+held_now p a h = rw (eq-eqb a.period_start (p * period) h)
 
 pub held_whole : (p : ℕ) (a : Account) → (a.period_start ≡ p * period → ⊥) → held p a ≡ a.cpu_allowance
 held_whole p a h = rw (ne_eqb a.period_start (p * period) h)
@@ -61,15 +61,15 @@ renewed a t h S =
     let w = S.whole in
     let b = S.before in
     test (due a t)
-    (λ d. let k = leb_true period (t - a.period_start) (account_laws.second (leb a.period_start t) (leb period (t - a.period_start)) d) in
+    (λ d. let k = leb-true period (t - a.period_start) (account_laws.second (leb a.period_start t) (leb period (t - a.period_start)) d) in
     let now = with_cpu a (t - (t - a.period_start) % period) (a.cpu_allowance - a.cpu_reserved) a.cpu_reserved in
     let start = restart t a.period_start w b in
     rw (← account_laws.renew_due a t d) (record {
       start = start;
       held = omega (arith, held_now (t / period) now start, held_whole (t / period) a (other_period t a.period_start b k), s.cpu);
     }))
-    (λ d. let k : t - a.period_start < period = leb_false period (t - a.period_start)
-    (rw (le_leb a.period_start t b) at d) in
+    (λ d. let k : t - a.period_start < period = leb-false period (t - a.period_start)
+    (rw (le-leb a.period_start t b) at d) in
     rw (← account_laws.renew_not_due a t d) (record { start = same_period t a.period_start w b k; held = refl }))
 
 -- the clock moves on
@@ -93,8 +93,8 @@ under_le : (r : Registry) (m : List (Row Carved)) → All (InLedger r) m → (b 
 under_le r [] a b i h = absurd (false≢true h)
 under_le r (x ∷ m) a b i h = test (eqb x.id i)
     (λ q. test (eqb i b)
-    (λ c. omega (arith, eqb_true i b c))
-    (λ c. omega (arith, under_le r m a.1 b x.it.parent (rw (q, c) at h), a.0.lower, eqb_true x.id i q)))
+    (λ c. omega (arith, eqb-true i b c))
+    (λ c. omega (arith, under_le r m a.1 b x.it.parent (rw (q, c) at h), a.0.lower, eqb-true x.id i q)))
     (λ q. under_le r m a.1 b i (rw q at h))
 
 under_step : (x : Row Carved) (m : List (Row Carved)) (b i p : ℕ) → eqb x.id i ≡ true → x.it.parent ≡ p → under m b p ≡ true → under (x ∷ m) b i ≡ true
@@ -114,12 +114,12 @@ climb : (r : Registry) → Sound r → (m : List (Row Carved)) → All (InLedger
     → (i ≡ b → ⊥) → under m b i ≡ true → ChildAbove r m b i
 climb r s [] a b i e here kind apart h = absurd (false≢true h)
 climb r s (x ∷ m) a b i e here kind apart h = test (eqb x.id i)
-    (λ q. let parent : x.it.parent ≡ e.payer = a.0.payer e (rw (eqb_true x.id i q) here) kind in
+    (λ q. let parent : x.it.parent ≡ e.payer = a.0.payer e (rw (eqb-true x.id i q) here) kind in
     let up : under m b e.payer ≡ true = rw (q, ne_eqb i b apart, parent) at h in
     test (eqb e.payer b)
-    (λ w. record { child = i; entry = e; here = here; payer = eqb_true e.payer b w; apart = apart; above = rw (q, eq_eqb i i refl) })
+    (λ w. record { child = i; entry = e; here = here; payer = eqb-true e.payer b w; apart = apart; above = rw (q, eq-eqb i i refl) })
     (λ w. let (y, Y) = budget_entry r e.payer (s.each i e here).paid in
-    let C = climb r s m a.1 b e.payer y Y.here Y.kind (eqb_false e.payer b w) up in
+    let C = climb r s m a.1 b e.payer y Y.here Y.kind (eqb-false e.payer b w) up in
     record {
       child = C.child;
       entry = C.entry;
@@ -184,7 +184,7 @@ module _ {A : Type 0} where
       → total w m + n ≤ total v m
   total_more w v [] c d n here h k = let z : ◌≡◌ {A = ℕ} 0 1 = cc in absurd (omega arith)
   total_more w v (x ∷ m) c d n here h k = test (eqb x.id c)
-      (λ e. let q = eqb_true x.id c e in let g : some x.it ≡ some d = rw e at here in let z : x.it ≡ d = cc in
+      (λ e. let q = eqb-true x.id c e in let g : some x.it ≡ some d = rw e at here in let z : x.it ≡ d = cc in
       rw (q, z) (omega (arith, total_le w v m (all_of (λ i a. w i a ≤ v i a) m h))))
       (λ e. omega (arith, h x.id x.it, total_more w v m c d n (rw e at here) h k))
 
@@ -211,18 +211,18 @@ bounded r o s p lines (suc n) i e h here =
     let children : to_children s r.rows i ≤ a.cpu_reserved =
     rw F.cpu_reserved (total_le (by_child s i) (cpu_by i) r.rows (Table.all_at (λ j d. by_child s i j d ≤ cpu_by i j d) r.rows 1 r.next o.rising
     λ j d at_j. test (is_child i j d)
-    (λ c. rw c (let x = eqb_true d.payer i (account_laws.first (eqb d.payer i) (not (eqb j i)) c) in
-    let y = eqb_false j i (not_true (eqb j i) (account_laws.second (eqb d.payer i) (not (eqb j i)) c)) in
+    (λ c. rw c (let x = eqb-true d.payer i (account_laws.first (eqb d.payer i) (not (eqb j i)) c) in
+    let y = eqb-false j i (not-true (eqb j i) (account_laws.second (eqb d.payer i) (not (eqb j i)) c)) in
     let D = o.each j d at_j in
     let low : i < j = test (eqb j 1)
-    (λ one. absurd (y (eqb_true j 1 one ∙ sym (D.root (eqb_true j 1 one)).1 ∙ x)))
-    (λ one. omega (arith, D.lower (eqb_false j 1 one))) in
+    (λ one. absurd (y (eqb-true j 1 one ∙ sym (D.root (eqb-true j 1 one)).1 ∙ x)))
+    (λ one. omega (arith, D.lower (eqb-false j 1 one))) in
     bounded r o s p lines n j d (omega arith) at_j))
     (λ c. rw c (omega arith)))) in
     let line = lines i e here in
     test (eqb a.period_start (p * period))
-    (λ q. omega (arith, held_now p a (eqb_true a.period_start (p * period) q)))
-    (λ q. omega (arith, held_whole p a (eqb_false a.period_start (p * period) q), F.cpu))
+    (λ q. omega (arith, held_now p a (eqb-true a.period_start (p * period) q)))
+    (λ q. omega (arith, held_whole p a (eqb-false a.period_start (p * period) q), F.cpu))
 
 -- no budget of the ledger is overspent, in any period
 abbrev pub Settled : Ledger → Type 0
@@ -242,8 +242,8 @@ clock_step r l T t h W = record {
   past = past_later r.next T r.next t l.charges (omega arith) h W.past;
   starts = λ i e here. start_later T t e.account h (W.starts i e here);
   lines = λ i e here. test (eqb (T / period) (t / period))
-      (λ q. rw (← eqb_true (T / period) (t / period) q) (W.lines i e here))
-      (λ q. let d = eqb_false (T / period) (t / period) q in
+      (λ q. rw (← eqb-true (T / period) (t / period) q) (W.lines i e here))
+      (λ q. let d = eqb-false (T / period) (t / period) q in
       let S = W.starts i e here in
       let later : T / period < t / period = above (T / period) (t / period) (omega arith) d in
       omega (
@@ -285,10 +285,10 @@ module _ (r : Registry) (i : ℕ) (y : Entry) (g : Entry → Entry) (here : at r
   pub alter_at : (P : ℕ → Entry → Type 0) → P i (g y) → ((j : ℕ) (d : Entry) → (i ≡ j → ⊥) → at r.rows j ≡ some d → P j d)
       → (j : ℕ) (d : Entry) → at (altered i g r).rows j ≡ some d → P j d
   alter_at P one other j d h = test (eqb i j)
-      (λ a. let q = eqb_true i j a in
+      (λ a. let q = eqb-true i j a in
       let z : g y ≡ d = cc (Table.at_alter r.rows i g y here) in
       rw (← q, ← z) one)
-      (λ a. other j d (eqb_false i j a) (sym (Table.at_alter_other r.rows i j g (eqb_false i j a)) ∙ h))
+      (λ a. other j d (eqb-false i j a) (sym (Table.at_alter_other r.rows i j g (eqb-false i j a)) ∙ h))
 
   pub alter_children : (s : ℕ → ℕ) (j : ℕ) → to_children s (altered i g r).rows j ≡ to_children s r.rows j
   alter_children s j = Table.total_same (by_child s j) r.rows i g (λ e. rw (k.payer e))
@@ -314,10 +314,10 @@ module _ (r : Registry) (i : ℕ) (y : Entry) (g : Entry → Entry) (here : at r
 pub add_at : (r : Registry) (x : Entry) → Rising 1 r.next r.rows → (P : ℕ → Entry → Type 0) → P r.next x → ((j : ℕ) (d : Entry) → at r.rows j ≡ some d → P j d)
     → (j : ℕ) (d : Entry) → at (add x r).rows j ≡ some d → P j d
 add_at r x up P one other j d h = test (eqb r.next j)
-    (λ a. let q = eqb_true r.next j a in
+    (λ a. let q = eqb-true r.next j a in
     let z : x ≡ d = cc (Table.at_snoc r.rows r.next 0 x (Table.at_above r.rows 1 r.next r.next up (omega arith))) in
     rw (← q, ← z) one)
-    (λ a. other j d (sym (Table.at_snoc_other r.rows r.next j x (eqb_false r.next j a)) ∙ h))
+    (λ a. other j d (sym (Table.at_snoc_other r.rows r.next j x (eqb-false r.next j a)) ∙ h))
 
 -- an entry is added, with no more than its allowance
 pub add_step : (r : Registry) (x : Entry) (l : Ledger) (T : ℕ) → Rising 1 r.next r.rows → Start T x.account → held (T / period) x.account ≤ x.account.cpu_allowance
@@ -368,9 +368,9 @@ note_step r x l T up low W A =
 pub erase_at : (r : Registry) (i : ℕ) → Rising 1 r.next r.rows → (j : ℕ) (d : Entry) → at (drop i r).rows j ≡ some d → at r.rows j ≡ some d
 erase_at r i up j d h = test (eqb i j)
     (λ a. let gone = Table.at_erase r.rows 1 r.next i up in
-    let q = eqb_true i j a in
+    let q = eqb-true i j a in
     let z : ◌≡◌ {A = ℕ} 0 1 = cc in absurd (omega arith))
-    (λ a. sym (Table.at_erase_other r.rows i j (eqb_false i j a)) ∙ h)
+    (λ a. sym (Table.at_erase_other r.rows i j (eqb-false i j a)) ∙ h)
 
 -- an entry goes, whose payer gives up what was charged to it
 pub erase_step : (r : Registry) (i : ℕ) (e : Entry) (l : Ledger) (T : ℕ) → Rising 1 r.next r.rows → at r.rows i ≡ some e
@@ -387,7 +387,7 @@ erase_step r i e l T up here spare W =
       lines = λ j d h.
           let t = Table.total_erase (by_child s j) r.rows i e here in
           test (is_child j i e)
-          (λ c. let q = eqb_true e.payer j (account_laws.first (eqb e.payer j) (not (eqb i j)) c) in
+          (λ c. let q = eqb-true e.payer j (account_laws.first (eqb e.payer j) (not (eqb i j)) c) in
           let t' : total (by_child s j) (erase i r.rows) + s i ≡ total (by_child s j) r.rows = rw c at t in
           let there : at r.rows e.payer ≡ some d = rw q (old j d h) in
           let k : s j + held (T / period) d.account + s i ≤ d.account.cpu_allowance + to_children s r.rows j = rw q at (spare d there) in
@@ -414,13 +414,13 @@ module _ (r : Registry) (o : Sound r) (l : Ledger) (i ns t : ℕ) (e : Entry) (B
 
   -- what is spent-among for b, now
   now_is : (b : ℕ) → now b ≡ cond (under l.budgets b i) ns 0 + before b
-  now_is b = rw (eq_eqb (t / period) (t / period) refl)
+  now_is b = rw (eq-eqb (t / period) (t / period) refl)
 
   now_above : (b : ℕ) → under l.budgets b i ≡ true → now b ≡ ns + before b
   now_above b h = now_is b ∙ ap (λ (c : Bool). cond c ns 0 + before b) h
 
   now_aside : (b : ℕ) → under l.budgets b i ≡ false → now b ≡ before b
-  now_aside b h = now_is b ∙ ap (λ (c : Bool). cond c ns 0 + before b) h ∙ zero_add (before b)
+  now_aside b h = now_is b ∙ ap (λ (c : Bool). cond c ns 0 + before b) h ∙ zero-add (before b)
 
   now_most : (b : ℕ) → now b ≤ ns + before b
   now_most b = test (under l.budgets b i) (λ h. omega (arith, now_above b h)) (λ h. omega (arith, now_aside b h))
@@ -435,7 +435,7 @@ module _ (r : Registry) (o : Sound r) (l : Ledger) (i ns t : ℕ) (e : Entry) (B
   children_above : (j : ℕ) → (i ≡ j → ⊥) → under l.budgets j i ≡ true → to_children before r.rows j + ns ≤ to_children now r.rows j
   children_above j apart h =
       let C = climb r o l.budgets W.budgets j i e B.here B.kind apart h in
-      let child : is_child j C.child C.entry ≡ true = rw (eq_eqb C.entry.payer j C.payer, ne_eqb C.child j C.apart) in
+      let child : is_child j C.child C.entry ≡ true = rw (eq-eqb C.entry.payer j C.payer, ne_eqb C.child j C.apart) in
       total_more (by_child before j) (by_child now j) r.rows C.child C.entry ns C.here (now_more j)
       (rw child (omega (arith, now_above C.child C.above)))
 
@@ -449,14 +449,14 @@ module _ (r : Registry) (o : Sound r) (l : Ledger) (i ns t : ℕ) (e : Entry) (B
   -- a budget above i, or i itself, is live
   above_live : (b : ℕ) → under l.budgets b i ≡ true → kind_at r.rows b ≡ 6
   above_live b h = test (eqb i b)
-      (λ a. rw (← eqb_true i b a) (ap (λ (x : Option Entry). (or_missing x).kind) B.here ∙ B.kind))
-      (λ a. let C = climb r o l.budgets W.budgets b i e B.here B.kind (eqb_false i b a) h in
+      (λ a. rw (← eqb-true i b a) (ap (λ (x : Option Entry). (or_missing x).kind) B.here ∙ B.kind))
+      (λ a. let C = climb r o l.budgets W.budgets b i e B.here B.kind (eqb-false i b a) h in
       let p = (o.each C.child C.entry C.here).paid in rw C.payer at p)
 
   charge_settled : Settled l'
   charge_settled = all_both (InLedger (budget i f r)) (λ b x. (q : ℕ) → spent l q b ≤ x.allowance) (λ b x. (q : ℕ) → spent l' q b ≤ x.allowance) l.budgets
       (λ b x I h q. test (eqb (t / period) q)
-      (λ a. rw (← eqb_true (t / period) q a) (test (under l.budgets b i)
+      (λ a. rw (← eqb-true (t / period) q a) (test (under l.budgets b i)
       (λ u. let (d, D) = budget_entry (budget i f r) b (kind_alter r.rows i b (on_account f) (λ x. refl) ∙ above_live b u) in
       omega (arith, I.allowance d D.here D.kind, bounded (budget i f r) o' now (t / period) charge_lines r.next b d (omega arith) D.here))
       (λ u. omega (arith, now_aside b u, h (t / period)))))

@@ -29,8 +29,8 @@ budget_entry r i h = go (at r.rows i) refl
 
 -- ids of entries lie below the next id
 pub below_next : (r : Registry) → Sound r → (i : ℕ) (e : Entry) → at r.rows i ≡ some e → i < r.next
-below_next r s i e h = test (ltb i r.next) (λ a. ltb_true i r.next a)
-    (λ a. let z = Table.at_above r.rows 1 r.next i s.rising (ltb_false i r.next a) in
+below_next r s i e h = test (ltb i r.next) (λ a. ltb-true i r.next a)
+    (λ a. let z = Table.at_above r.rows 1 r.next i s.rising (ltb-false i r.next a) in
     let b : ◌≡◌ {A = ℕ} 0 1 = cc in absurd (omega arith))
 
 -- no entry names p as its payer: p has nothing to pay for and nothing reserved
@@ -97,10 +97,10 @@ module _ (m n : List (Row Entry)) (p : ℕ) (y : Entry) (f : Account → Account
   payer_entry paid =
       let F = each p y there in
       let a = account_laws.sound_told moves.sound in
-      let on = eq_eqb p p refl in
+      let on = eq-eqb p p refl in
       record {
         code = F.code;
-        plain = λ h. absurd (eqb_false y.kind 6 h is_budget);
+        plain = λ h. absurd (eqb-false y.kind 6 h is_budget);
         root = F.root;
         lower = F.lower;
         paid = paid;
@@ -132,17 +132,17 @@ module _ (m n : List (Row Entry)) (p : ℕ) (y : Entry) (f : Account → Account
   each_entry : (j : ℕ) → ((d : Entry) → at m j ≡ some d → kind_at n d.payer ≡ 6)
       → (d : Entry) → at (alter p (on_account f) m) j ≡ some d → SoundEntry n j d
   each_entry j paid d h = test (eqb p j)
-      (λ a. let q = eqb_true p j a in
+      (λ a. let q = eqb-true p j a in
       let z : on_account f y ≡ d = cc (Table.at_alter m p (on_account f) y there) in
       rw (← q, ← z) (payer_entry (paid y (cc))))
-      (λ a. let k = sym (Table.at_alter_other m p j (on_account f) (eqb_false p j a)) ∙ h in other_entry j d k a (paid d k))
+      (λ a. let k = sym (Table.at_alter_other m p j (on_account f) (eqb-false p j a)) ∙ h in other_entry j d k a (paid d k))
 
 -- Kinds, and totals of an account that moves.
 
 pub kind_alter : (m : List (Row Entry)) (i p : ℕ) (g : Entry → Entry) → ((e : Entry) → (g e).kind ≡ e.kind) → kind_at (alter i g m) p ≡ kind_at m p
 kind_alter [] i p g h = refl
 kind_alter (r ∷ m) i p g h = test (eqb r.id i)
-    (λ a. let q = eqb_true r.id i a in rw (a, q)
+    (λ a. let q = eqb-true r.id i a in rw (a, q)
     (test (eqb i p) (λ b. rw (b, kind_at) (h r.it)) (λ b. rw (b, kind_at))))
     (λ a. rw a (test (eqb r.id p) (λ b. rw (b, kind_at)) (λ b. rw (b, kind_at) (kind_alter m i p g h))))
 
@@ -153,7 +153,7 @@ nothing false = refl
 -- a child i of another budget p weighs for p, and for no other
 child_weight : (i p j v : ℕ) → (i ≡ p → ⊥) → cond (eqb p j && not (eqb i j)) v 0 ≡ cond (eqb p j) v 0
 child_weight i p j v apart = test (eqb p j)
-    (λ a. rw (a, ne_eqb i j (λ q. apart (q ∙ sym (eqb_true p j a)))))
+    (λ a. rw (a, ne_eqb i j (λ q. apart (q ∙ sym (eqb-true p j a)))))
     (λ a. rw a)
 
 module _ {f : Account → Account} {a : Account} {down up : Sums} (c : AccountMoves f a down up) (m : List (Row Entry)) (p j : ℕ) where
@@ -264,17 +264,17 @@ module _ (r : Registry) (e : Entry) (f : Account → Account) (x : Entry)
 
   pub add_step : Sound (added r f x)
   add_step = record {
-    few = simp (length_append, Table.length_alter) (omega (arith, g.few));
+    few = simp (length-append, Table.length_alter) (omega (arith, g.few));
     rising = Table.rising_snoc (budget x.payer f r).rows 1 r.next x
         (Table.rising_alter r.rows 1 r.next x.payer (on_account f) s.rising);
     root = add_paid 1 s.root;
     each = λ j d h. test (eqb r.next j)
-        (λ a. let q = eqb_true r.next j a in
+        (λ a. let q = eqb-true r.next j a in
         let z : x ≡ d = cc (Table.at_snoc (budget x.payer f r).rows r.next 0 x add_no_entry) in
         rw (← q, ← z) add_new)
         (λ a. each_entry r.rows (added r f x).rows x.payer e f zeros (weight x) B.here B.kind c add_totals s.each
         j (λ b k. add_paid b.payer (s.each j b k).paid) d
-        (sym (Table.at_snoc_other (budget x.payer f r).rows r.next j x (eqb_false r.next j a)) ∙ h));
+        (sym (Table.at_snoc_other (budget x.payer f r).rows r.next j x (eqb-false r.next j a)) ∙ h));
   }
 
 -- the charge of entry i goes by g, and its payer's account moves
@@ -289,8 +289,8 @@ pub record ObjectEntry (r : Registry) (i : ℕ) (e y : Entry) : Type 0 where
 pub at_on_account : (m : List (Row Entry)) (p i : ℕ) (f : Account → Account) (e : Entry) → at m i ≡ some e
     → (d : Entry) × (at (alter p (on_account f) m) i ≡ some d) × (d.payer ≡ e.payer) × (d.charge ≡ e.charge)
 at_on_account m p i f e h = test (eqb p i)
-    (λ a. (on_account f e, rw (← eqb_true p i a) (Table.at_alter m p (on_account f) e (rw (eqb_true p i a) h)), refl, refl))
-    (λ a. (e, Table.at_alter_other m p i (on_account f) (eqb_false p i a) ∙ h, refl, refl))
+    (λ a. (on_account f e, rw (← eqb-true p i a) (Table.at_alter m p (on_account f) e (rw (eqb-true p i a) h)), refl, refl))
+    (λ a. (e, Table.at_alter_other m p i (on_account f) (eqb-false p i a) ∙ h, refl, refl))
 
 -- soundness does not ask an entry's own charge
 entry_charge : (m : List (Row Entry)) (j : ℕ) (d : Entry) (g : ℕ → ℕ) → SoundEntry m j d → SoundEntry m j (on_charge g d)
@@ -340,10 +340,10 @@ module _ (r : Registry) (i : ℕ) (e y : Entry) (f : Account → Account) (g : �
     each = λ j d h.
         let (x, at_x, payer, charge) = at_on_account r.rows e.payer i f e O.here in
         test (eqb i j)
-        (λ b. let q = eqb_true i j b in
+        (λ b. let q = eqb-true i j b in
         let z : on_charge g x ≡ d = cc (Table.at_alter (budget e.payer f r).rows i (on_charge g) x at_x) in
         rw (← q, ← z) (entry_charge (charged r i e f g).rows i x g (charge_each i x at_x)))
-        (λ b. charge_each j d (sym (Table.at_alter_other (budget e.payer f r).rows i j (on_charge g) (eqb_false i j b)) ∙ h));
+        (λ b. charge_each j d (sym (Table.at_alter_other (budget e.payer f r).rows i j (on_charge g) (eqb-false i j b)) ∙ h));
   }
 
 -- an entry that pays for nothing goes, and its payer's account moves
@@ -387,12 +387,12 @@ module _ (r : Registry) (i : ℕ) (e y : Entry) (f : Account → Account)
   -- the other entries are those where only the account moves
   remove_other : (j : ℕ) → (i ≡ j → ⊥) → at (removed r i e f).rows j ≡ at (budget e.payer f r).rows j
   remove_other j apart = test (eqb e.payer j)
-      (λ a. rw (← eqb_true e.payer j a)
+      (λ a. rw (← eqb-true e.payer j a)
       (Table.at_alter (drop i r).rows e.payer (on_account f) y (Table.at_erase_other r.rows i e.payer remove_apart ∙ O.payer.here)
       ∙ sym (Table.at_alter r.rows e.payer (on_account f) y O.payer.here)))
-      (λ a. Table.at_alter_other (drop i r).rows e.payer j (on_account f) (eqb_false e.payer j a)
+      (λ a. Table.at_alter_other (drop i r).rows e.payer j (on_account f) (eqb-false e.payer j a)
       ∙ Table.at_erase_other r.rows i j apart
-      ∙ sym (Table.at_alter_other r.rows e.payer j (on_account f) (eqb_false e.payer j a)))
+      ∙ sym (Table.at_alter_other r.rows e.payer j (on_account f) (eqb-false e.payer j a)))
 
   pub remove_step : Sound (removed r i e f)
   remove_step = record {
@@ -401,11 +401,11 @@ module _ (r : Registry) (i : ℕ) (e y : Entry) (f : Account → Account)
         (Table.rising_erase r.rows 1 r.next i s.rising);
     root = remove_kind 1 not_root ∙ s.root;
     each = λ j d h. test (eqb i j)
-        (λ b. let q = eqb_true i j b in
+        (λ b. let q = eqb-true i j b in
         let gone = Table.at_alter_other (drop i r).rows e.payer i (on_account f) (λ p. remove_apart (sym p))
         ∙ Table.at_erase r.rows 1 r.next i s.rising in
         let z : ◌≡◌ {A = ℕ} 0 1 = cc in absurd (omega arith))
-        (λ b. let apart = eqb_false i j b in
+        (λ b. let apart = eqb-false i j b in
         each_entry r.rows (removed r i e f).rows e.payer y f (weight e) zeros O.payer.here O.payer.kind c remove_totals s.each
         j (λ x k. remove_kind x.payer (unpaid j x k) ∙ (s.each j x k).paid) d (sym (remove_other j apart) ∙ h));
   }

@@ -75,22 +75,22 @@ module _ (r : Registry) (s : Sound r) where
         let p = e.payer in
         let step = within_step r s b c e h in
         test (eqb c b)
-        (λ a. let q = eqb_true c b a in
+        (λ a. let q = eqb-true c b a in
         let high : (within r b p && not (eqb c p)) ≡ false = test (eqb c 1)
-        (λ o. and_false (within r b p) (rw (eq_eqb c p (eqb_true c 1 o ∙ sym ((s.each c e h).root (eqb_true c 1 o)).1))))
-        (λ o. let low = (s.each c e h).lower (eqb_false c 1 o) in
+        (λ o. and_false (within r b p) (rw (eq-eqb c p (eqb-true c 1 o ∙ sym ((s.each c e h).root (eqb-true c 1 o)).1))))
+        (λ o. let low = (s.each c e h).lower (eqb-false c 1 o) in
         let (x, X) = payer_at r s c e h in
         let out : within r b p ≡ false = test (within r b p) (λ k. absurd (omega (arith, within_le r s p b p x (omega arith) X.here k))) (λ k. k) in
         rw out) in
-        only (within r b p && not (eqb c p)) (eqb b c) (within r b c) (v e) high (eq_eqb b c (sym q)) (step ∙ or_left (within r b p) a))
-        (λ a. let d = eqb_false c b a in
+        only (within r b p && not (eqb c p)) (eqb b c) (within r b c) (v e) high (eq-eqb b c (sym q)) (step ∙ or_left (within r b p) a))
+        (λ a. let d = eqb-false c b a in
         let same : within r b c ≡ within r b p = rw a at step in
         let high : (within r b p && not (eqb c p)) ≡ within r b c = test (eqb c 1)
-        (λ o. let one = eqb_true c 1 o in
+        (λ o. let one = eqb-true c 1 o in
         let root : p ≡ c = ((s.each c e h).root one).1 ∙ sym one in
         let out : within r b c ≡ false = rw one (within_root r s b ∙ rw one at a) in
         rw (← same, out))
-        (λ o. let low = (s.each c e h).lower (eqb_false c 1 o) in
+        (λ o. let low = (s.each c e h).lower (eqb-false c 1 o) in
         and_true (within r b p) (rw (ne_eqb c p (λ z. omega arith))) ∙ sym same) in
         rest (within r b p && not (eqb c p)) (eqb b c) (within r b c) (v e) high (ne_eqb b c (λ z. d (sym z))))
 

@@ -18,9 +18,9 @@ use Rattle.carv_objects_spec.specs.Within.{meets, within, Within, itself, by_pay
 -- ids are 1 or more
 pub from_one : (r : Registry) → Sound r → (i : ℕ) (e : Entry) → at r.rows i ≡ some e → 1 ≤ i
 from_one r s i e h = test (ltb i 1)
-    (λ a. let z = Table.at_below r.rows 1 r.next i s.rising (ltb_true i 1 a) in
+    (λ a. let z = Table.at_below r.rows 1 r.next i s.rising (ltb-true i 1 a) in
     let b : ◌≡◌ {A = ℕ} 0 1 = cc in absurd (omega arith))
-    (λ a. ltb_false i 1 a)
+    (λ a. ltb-false i 1 a)
 
 pub entry_at : (r : Registry) (i : ℕ) (e : Entry) → at r.rows i ≡ some e → entry r i ≡ e
 entry_at r i e h = ap or_missing h
@@ -43,8 +43,8 @@ or_left c h = rw h
 -- no payer has a higher id
 payer_low : (r : Registry) → Sound r → (i : ℕ) (e : Entry) → at r.rows i ≡ some e → e.payer ≤ i
 payer_low r s i e h = test (eqb i 1)
-    (λ a. omega (arith, ((s.each i e h).root (eqb_true i 1 a)).1, eqb_true i 1 a))
-    (λ a. omega (arith, (s.each i e h).lower (eqb_false i 1 a)))
+    (λ a. omega (arith, ((s.each i e h).root (eqb-true i 1 a)).1, eqb-true i 1 a))
+    (λ a. omega (arith, (s.each i e h).lower (eqb-false i 1 a)))
 
 module _ (r : Registry) (s : Sound r) (b : ℕ) where
   -- the way goes on at the entry's payer
@@ -64,9 +64,9 @@ module _ (r : Registry) (s : Sound r) (b : ℕ) where
       let one : i ≡ 1 = omega (arith, from_one r s i e h) in
       rw one (at_root zero ∙ sym (at_root 1))
   once_more (suc n) i e h k = test (eqb i 1)
-      (λ a. rw (eqb_true i 1 a) (at_root (suc n) ∙ sym (at_root (suc (suc n)))))
+      (λ a. rw (eqb-true i 1 a) (at_root (suc n) ∙ sym (at_root (suc (suc n)))))
       (λ a. let (y, B) = payer_at r s i e h in
-      let low = (s.each i e h).lower (eqb_false i 1 a) in
+      let low = (s.each i e h).lower (eqb-false i 1 a) in
       go_on n i e h ∙ ap (λ (c : Bool). eqb i b || c) (once_more n e.payer y B.here (omega arith)) ∙ sym (go_on (suc n) i e h))
 
   enough : (k n i : ℕ) (e : Entry) → at r.rows i ≡ some e → i ≤ suc n → meets n r b i ≡ meets (n + k) r b i
@@ -91,27 +91,27 @@ module _ (r : Registry) (s : Sound r) where
   -- each is within itself
   pub within_self : (i : ℕ) → within r i i ≡ true
   within_self zero = refl
-  within_self (suc i) = rw (eq_eqb (suc i) (suc i) refl)
+  within_self (suc i) = rw (eq-eqb (suc i) (suc i) refl)
 
   -- all are within the root
   pub within_the_root : (n i : ℕ) (e : Entry) → i ≤ n → at r.rows i ≡ some e → within r 1 i ≡ true
   within_the_root zero i e l h = absurd (omega (arith, from_one r s i e h))
   within_the_root (suc n) i e l h = test (eqb i 1)
-      (λ a. rw (eqb_true i 1 a) (within_self 1))
+      (λ a. rw (eqb-true i 1 a) (within_self 1))
       (λ a. let (y, B) = payer_at r s i e h in
-      let low = (s.each i e h).lower (eqb_false i 1 a) in
+      let low = (s.each i e h).lower (eqb-false i 1 a) in
       within_step r s 1 i e h ∙ or_true (eqb i 1) (within_the_root n e.payer y (omega arith) B.here))
 
   -- what is within b has no lower id
   pub within_le : (n b i : ℕ) (e : Entry) → i ≤ n → at r.rows i ≡ some e → within r b i ≡ true → b ≤ i
   within_le zero b i e l h k = absurd (omega (arith, from_one r s i e h))
   within_le (suc n) b i e l h k = test (eqb i b)
-      (λ a. omega (arith, eqb_true i b a))
+      (λ a. omega (arith, eqb-true i b a))
       (λ a. let up : within r b e.payer ≡ true = rw a at (sym (within_step r s b i e h) ∙ k) in
       let (y, B) = payer_at r s i e h in
       test (eqb i 1)
-      (λ c. absurd (false≢true (sym a ∙ rw (eqb_true i 1 c) (sym (within_root r s b) ∙ (rw (eqb_true i 1 c) at k)))))
-      (λ c. let low = (s.each i e h).lower (eqb_false i 1 c) in
+      (λ c. absurd (false≢true (sym a ∙ rw (eqb-true i 1 c) (sym (within_root r s b) ∙ (rw (eqb-true i 1 c) at k)))))
+      (λ c. let low = (s.each i e h).lower (eqb-false i 1 c) in
       let z = within_le n b e.payer y (omega arith) B.here up in omega arith))
 
 -- The test tells the sentence.
@@ -121,9 +121,9 @@ or_cases true b h f g = f refl
 or_cases false b h f g = g h
 
 met : (n : ℕ) (r : Registry) (b i : ℕ) → meets n r b i ≡ true → Within r b i
-met zero r b i h = let e : i ≡ b = eqb_true i b h in rw e itself
+met zero r b i h = let e : i ≡ b = eqb-true i b h in rw e itself
 met (suc n) r b i h = or_cases (eqb i b) (meets n r b (payer_of r i)) h
-    (λ a. let e : i ≡ b = eqb_true i b a in rw e itself)
+    (λ a. let e : i ≡ b = eqb-true i b a in rw e itself)
     (λ a. by_payer i (met n r b (payer_of r i) a))
 
 told : (r : Registry) → Sound r → (b i : ℕ) → Within r b i → has r i ≡ true → within r b i ≡ true

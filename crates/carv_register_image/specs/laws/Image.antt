@@ -26,8 +26,8 @@ length_image = refl
 -- in a list of zeros, 0 is read at every place
 zero_at : (n i : ℕ) → ◌≡◌ {A = ℕ} (get_or (replicate n 0) i 0) 0
 zero_at n i = ⊎_elim
-    (λ (h : i < n). get_or_replicate {A = ℕ} n i 0 0 h)
-    (λ (h : n ≤ i). get_or_eq_default {A = ℕ} (replicate n 0) 0 {n = i} (rw length_replicate h))
+    (λ (h : i < n). get_or-replicate {A = ℕ} n i 0 0 h)
+    (λ (h : n ≤ i). get_or-eq_default {A = ℕ} (replicate n 0) 0 {n = i} (rw length-replicate h))
     (lt_or_ge i n)
 
 -- its words: all 0 but two
@@ -38,7 +38,7 @@ image_words = refl
 pub other_word : (i : ℕ) → i ≢ 0 → i ≢ 3 → 0 ≡ get_or (words register_image) i 0
 other_word i a b =
     sym (ap (λ (l : List ℕ). get_or l i 0) image_words
-    ∙ get_or_set_other (set (replicate 64 0) 0 0x037f) 3 i 0x0000_ffbf_0000_1f80 0 b ∙ get_or_set_other (replicate 64 0) 0 i 0x037f 0 a
+    ∙ get_or-set_other (set (replicate 64 0) 0 0x037f) 3 i 0x0000_ffbf_0000_1f80 0 b ∙ get_or-set_other (replicate 64 0) 0 i 0x037f 0 a
     ∙ zero_at 64 i)
 
 -- its bytes are bytes
@@ -56,7 +56,7 @@ image_bytes = byte_at register_image refl
 
     byte_at : (l : List ℕ) → are_bytes l ≡ true → (j : ℕ) → get_or l j 0 < 256
     byte_at [] e j = omega arith
-    byte_at (x ∷ l) e zero = ltb_true x 256 (both (ltb x 256) (are_bytes l) e).0
+    byte_at (x ∷ l) e zero = ltb-true x 256 (both (ltb x 256) (are_bytes l) e).0
     byte_at (x ∷ l) e (suc j) = byte_at l (both (ltb x 256) (are_bytes l) e).1 j
 
 -- ---- after the steps
@@ -68,7 +68,7 @@ after_none lent = refl
 
 module _ (k : ℕ) (h : k ≤ 64) (lent : List ℕ) where
   front : length (take (k * 8) register_image) ≡ k * 8
-  front = length_take_le (k * 8) register_image (omega (arith, length_image))
+  front = length-take-le (k * 8) register_image (omega (arith, length_image))
 
   -- "its first 8k bytes are final"
   pub are_final : take (k * 8) (after_step k lent) ≡ take (k * 8) register_image
@@ -91,14 +91,14 @@ module _ (k : ℕ) (h : k < 64) (lent m : List ℕ) (e : m ≡ after_step k lent
   one_more =
       let n : (k + 1) * 8 ≡ k * 8 + 8 = omega arith in
       let d : drop (k * 8) m ≡ drop (k * 8) lent = ap (drop (k * 8)) e ∙ as_lent k (omega arith) lent in
-      ap (λ (l : List ℕ). take ((k + 1) * 8) register_image ++ l) (rw (n, ← (drop_drop 8 (k * 8) m), ← (drop_drop 8 (k * 8) lent)) (ap (drop 8) d))
+      ap (λ (l : List ℕ). take ((k + 1) * 8) register_image ++ l) (rw (n, ← (drop-drop 8 (k * 8) m), ← (drop-drop 8 (k * 8) lent)) (ap (drop 8) d))
 
 -- after the last, the image
 pub after_all : (lent : List ℕ) → length lent ≡ 512 → after_step 64 lent ≡ register_image
 unfolding after_step
 after_all lent z =
     ap (λ (l : List ℕ). l ++ drop 512 lent) (take_all 512 register_image (omega (arith, length_image)))
-    ∙ ap (λ (l : List ℕ). register_image ++ l) (nothing_left (drop 512 lent) (length_drop 512 lent ∙ omega arith)) ∙ append_nil register_image
+    ∙ ap (λ (l : List ℕ). register_image ++ l) (nothing_left (drop 512 lent) (length-drop 512 lent ∙ omega arith)) ∙ append-nil register_image
   where
     nothing_left : (l : List ℕ) → length l ≡ 0 → l ≡ []
     nothing_left [] e = refl
@@ -122,12 +122,12 @@ module _ (k : ℕ) (a : 1 ≤ k) (b : k ≤ 64) where
   pub step_is : (m : List ℕ) → Final (k - 1) m → eight_written k m ≡ after_step k m
   unfolding eight_written after_step Final
   step_is m e =
-      rw (e, drop_drop 8 ((k - 1) * 8) m, ← ends, take_add ((k - 1) * 8) 8 register_image)
+      rw (e, drop-drop 8 ((k - 1) * 8) m, ← ends, take-add ((k - 1) * 8) 8 register_image)
       (sym (append_assoc (take ((k - 1) * 8) register_image) own (drop ((k - 1) * 8 + 8) m)))
 
   module _ (m : List ℕ) (z : length m ≡ 512) where
     before : length (take ((k - 1) * 8) m) ≡ (k - 1) * 8
-    before = length_take_le ((k - 1) * 8) m (omega arith)
+    before = length-take-le ((k - 1) * 8) m (omega arith)
 
     -- of what is written, the bytes before the eight stay, the eight are the image's, the bytes behind them stay
     pub before_stays : take ((k - 1) * 8) (eight_written k m) ≡ take ((k - 1) * 8) m
@@ -141,7 +141,7 @@ module _ (k : ℕ) (a : 1 ≤ k) (b : k ≤ 64) where
     pub behind_stays : drop (k * 8) (eight_written k m) ≡ drop (k * 8) m
     unfolding eight_written
     behind_stays =
-        rw (← ends, ← (drop_drop 8 ((k - 1) * 8) m), ← (drop_drop 8 ((k - 1) * 8) (put_part ((k - 1) * 8) 8 m own)))
+        rw (← ends, ← (drop-drop 8 ((k - 1) * 8) m), ← (drop-drop 8 ((k - 1) * 8) (put_part ((k - 1) * 8) 8 m own)))
         (ap (drop 8) (drop_at (take ((k - 1) * 8) m) (own ++ drop 8 (drop ((k - 1) * 8) m)) ((k - 1) * 8) before)
         ∙ drop_at own (drop 8 (drop ((k - 1) * 8) m)) 8 length_own)
 
@@ -151,7 +151,7 @@ module _ (k : ℕ) (a : 1 ≤ k) (b : k ≤ 64) where
         let i : k - 1 < length (words register_image) = omega (arith, length_words register_image, length_image) in
         let j : k - 1 < length (words m) = omega (arith, length_words m) in
         words_put m (k - 1) 1 (omega arith) own length_own
-        ∙ rw (words_part register_image (k - 1) 1 (omega (arith, length_image)), drop_cons (words register_image) (k - 1) 0 i, drop_cons (words m) (k - 1) 0 j)
+        ∙ rw (words_part register_image (k - 1) 1 (omega (arith, length_image)), drop-cons (words register_image) (k - 1) 0 i, drop-cons (words m) (k - 1) 0 j)
         (sym (set_split (words m) (k - 1) (get_or (words register_image) (k - 1) 0) j))
 
     -- `write_eight`: a store of the image's word at word number i

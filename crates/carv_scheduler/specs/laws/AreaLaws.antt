@@ -115,11 +115,11 @@ asked_told a h =
     let h₄ = second (all_zero (behind 21 (words (threads_part a)))) _ h₃ in
     let h₅ = second (nat_le (slice_index (words (queue_part a)) 0) 127) _ h₄ in
     record {
-      size = eqb_true (length a) 68_144 (first (length a == 68_144) _ h);
+      size = eqb-true (length a) 68_144 (first (length a == 68_144) _ h);
       registry = first (objects.sound_area (registry_part a)) _ h₁;
       sound = first (sound (decode a)) _ h₂;
       threads = first (all_zero (behind 21 (words (threads_part a)))) _ h₃;
-      count = leb_true (slice_index (words (queue_part a)) 0) 127 (first (nat_le (slice_index (words (queue_part a)) 0) 127) _ h₄);
+      count = leb-true (slice_index (words (queue_part a)) 0) 127 (first (nat_le (slice_index (words (queue_part a)) 0) 127) _ h₄);
       queue = first (all_zero (behind 1 (words (queue_part a)))) _ h₅;
       exits = second (all_zero (behind 1 (words (queue_part a)))) _ h₅;
     }
@@ -127,7 +127,7 @@ asked_told a h =
 pub asked_shown : (a : List ℕ) → Asked a → sound_area a ≡ true
 unfolding sound_area
 asked_shown a k =
-    rw (eq_eqb (length a) 68_144 k.size, k.registry, k.sound, k.threads, le_leb (slice_index (words (queue_part a)) 0) 127 k.count, k.queue, k.exits)
+    rw (eq-eqb (length a) 68_144 k.size, k.registry, k.sound, k.threads, le-leb (slice_index (words (queue_part a)) 0) 127 k.count, k.queue, k.exits)
 
 -- a sound area says a sound board, and is well formed
 module _ (a : List ℕ) (s : sound_area a ≡ true) where

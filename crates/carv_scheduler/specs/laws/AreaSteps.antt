@@ -109,10 +109,10 @@ module _ (a : List ℕ) (k : WellFormed a) (p : List ℕ) where
   unfolding head
   head_set x n l z e q =
       let w : length (words (part 45_072 16 a)) ≡ 2 = length_words (part 45_072 16 a) ∙ ap (λ (m : ℕ). m / 8) (length_head a k.size) in
-      let m : length l ≡ 2 = rw (e, length_set) w in
+      let m : length l ≡ 2 = rw (e, length-set) w in
       head_written a k p x n z
-      (ap (λ (u : List ℕ). slice_index u 0) q ∙ get_or_set_other l 1 0 n 0 (λ c. omega arith) ∙ ap (λ (u : List ℕ). slice_index u 0) e ∙ get_or_set_same (words (part 45_072 16 a)) 0 x 0 (omega arith))
-      (ap (λ (u : List ℕ). slice_index u 1) q ∙ get_or_set_same l 1 n 0 (omega arith))
+      (ap (λ (u : List ℕ). slice_index u 0) q ∙ get_or-set_other l 1 0 n 0 (λ c. omega arith) ∙ ap (λ (u : List ℕ). slice_index u 0) e ∙ get_or-set_same (words (part 45_072 16 a)) 0 x 0 (omega arith))
+      (ap (λ (u : List ℕ). slice_index u 1) q ∙ get_or-set_same l 1 n 0 (omega arith))
 
   module _ (z : length p ≡ 21_512) where
     pub thread_set : (i x : ℕ) (t : Thread) → i < length (decode a).threads → (get_or (decode a).threads i no_row).id ≡ x → words p ≡ set_thread (words (threads_part a)) i (row x t)

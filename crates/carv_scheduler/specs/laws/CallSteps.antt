@@ -23,7 +23,7 @@ use Rattle.carv_scheduler.specs.laws.Room.{queue_room}
 module _ (m : List (Row Thread)) (x i : ℕ) (h : Here no_row m x i) where
   module _ (t : Thread) (e : t ≡ (get_or m i no_row).it) where
     pub here_is : (s : ℕ) → t.state ≡ s → is s (thread m x) ≡ true
-    here_is s q = eq_eqb (thread m x).state s (ap (λ (u : Thread). u.state) (here_thread m x i h ∙ sym e) ∙ q)
+    here_is s q = eq-eqb (thread m x).state s (ap (λ (u : Thread). u.state) (here_thread m x i h ∙ sym e) ∙ q)
 
     pub here_not : (s : ℕ) → (t.state ≢ s) → is s (thread m x) ≡ false
     here_not s q = ne_eqb (thread m x).state s (λ z. q (ap (λ (u : Thread). u.state) (e ∙ sym (here_thread m x i h)) ∙ z))
@@ -71,13 +71,13 @@ module _ (u : Thread) (kind number : ℕ) where
   blocked_not s = rw (ne_eqb u.state 4 s)
 
   pub blocked_kind : u.state ≡ 4 → (u.wait.kind ≢ kind) → false ≡ (is blocked u && (u.wait.kind == kind && u.wait.number == number))
-  blocked_kind s k = rw (eq_eqb u.state 4 s, ne_eqb u.wait.kind kind k)
+  blocked_kind s k = rw (eq-eqb u.state 4 s, ne_eqb u.wait.kind kind k)
 
   pub blocked_number : u.state ≡ 4 → u.wait.kind ≡ kind → (u.wait.number ≢ number) → false ≡ (is blocked u && (u.wait.kind == kind && u.wait.number == number))
-  blocked_number s k n = rw (eq_eqb u.state 4 s, eq_eqb u.wait.kind kind k, ne_eqb u.wait.number number n)
+  blocked_number s k n = rw (eq-eqb u.state 4 s, eq-eqb u.wait.kind kind k, ne_eqb u.wait.number number n)
 
   pub blocked_yes : u.state ≡ 4 → u.wait.kind ≡ kind → u.wait.number ≡ number → true ≡ (is blocked u && (u.wait.kind == kind && u.wait.number == number))
-  blocked_yes s k n = rw (eq_eqb u.state 4 s, eq_eqb u.wait.kind kind k, eq_eqb u.wait.number number n)
+  blocked_yes s k n = rw (eq-eqb u.state 4 s, eq-eqb u.wait.kind kind k, eq-eqb u.wait.number number n)
 
 pub blocked_at : (m : List (Row Thread)) (x i kind number : ℕ) → Here no_row m x i → (r : Bool)
     → r ≡ (is blocked (get_or m i no_row).it && ((get_or m i no_row).it.wait.kind == kind && (get_or m i no_row).it.wait.number == number))

@@ -18,11 +18,11 @@ passed false x y h = refl
 -- what is found from place j on: nothing past the last, the cause of a match, else what is found behind it
 module _ (thread : ℕ) (l : List Exit) where
   pub run_ends : exit_in thread (drop (length l) l) ≡ none
-  run_ends = rw (drop_length l)
+  run_ends = rw (drop-length l)
 
   module _ (j : ℕ) (h : j < length l) where
     pub run_here : T ((slice_index_or l j no_exit).thread == thread) → exit_in thread (drop j l) ≡ some (slice_index_or l j no_exit).cause
-    run_here t = rw (drop_cons l j no_exit h) (picked ((slice_index_or l j no_exit).thread == thread) (some (slice_index_or l j no_exit).cause) (exit_in thread (drop (suc j) l)) t)
+    run_here t = rw (drop-cons l j no_exit h) (picked ((slice_index_or l j no_exit).thread == thread) (some (slice_index_or l j no_exit).cause) (exit_in thread (drop (suc j) l)) t)
 
     pub run_past : T (not ((slice_index_or l j no_exit).thread == thread)) → exit_in thread (drop j l) ≡ exit_in thread (drop (suc j) l)
-    run_past t = rw (drop_cons l j no_exit h) (passed ((slice_index_or l j no_exit).thread == thread) (some (slice_index_or l j no_exit).cause) (exit_in thread (drop (suc j) l)) t)
+    run_past t = rw (drop-cons l j no_exit h) (passed ((slice_index_or l j no_exit).thread == thread) (some (slice_index_or l j no_exit).cause) (exit_in thread (drop (suc j) l)) t)

@@ -79,8 +79,8 @@ module _ (a : List ℕ) (k : WellFormed a) (p : List ℕ) (z : length p ≡ 520)
 module _ (l : List Exit) where
   pub spared_few : length l ≤ 32 → length (spared l) < 32
   spared_few h = test (length l == 32)
-      (λ e. rw (e, length_drop 1 l) (omega arith))
-      (λ e. rw e (below (length l) h (eqb_false (length l) 32 e)))
+      (λ e. rw (e, length-drop 1 l) (omega arith))
+      (λ e. rw e (below (length l) h (eqb-false (length l) 32 e)))
     where
       below : (n : ℕ) → n ≤ 32 → (n ≢ 32) → n < 32
       below n h d = omega arith
@@ -90,7 +90,7 @@ module _ (a : List ℕ) (k : WellFormed a) (n : ℕ) (c : n ≡ length (decode a
   full_some e = omega arith
 
   pub room_made : n ≡ 32 → (a' : List ℕ) → Leaves a' (with_exits (drop 1 (decode a).exits) (decode a)) → Leaves a' (with_exits (spared (decode a).exits) (decode a))
-  room_made e a' h = rw (eq_eqb (length (decode a).exits) 32 (sym c ∙ e)) h
+  room_made e a' h = rw (eq-eqb (length (decode a).exits) 32 (sym c ∙ e)) h
 
   pub room_there : (n ≢ 32) → Leaves a (with_exits (spared (decode a).exits) (decode a))
   room_there e = rw (ne_eqb (length (decode a).exits) 32 (λ q. e (c ∙ q))) (unchanged a k)
@@ -105,17 +105,17 @@ module _ (a a₁ : List ℕ) (k : WellFormed a) (h : Leaves a₁ (with_exits (sp
 -- the walk of `exit_of`: what is found from place i on
 module _ (l : List Exit) (x i : ℕ) (w : Option ℕ) (k : exit_in x (drop i l) ≡ w) where
   pub exit_ends : length l ≤ i → none ≡ w
-  exit_ends h = ap (exit_in x) (sym (drop_of_length_le l h)) ∙ k
+  exit_ends h = ap (exit_in x) (sym (drop_of_length-le l h)) ∙ k
 
   module _ (h : i < length l) (e : Exit) (q : e ≡ slice_index_or l i no_exit) where
     exit_turn : cond (e.thread == x) (some e.cause) (exit_in x (drop (suc i) l)) ≡ w
-    exit_turn = rw q (sym (ap (exit_in x) (drop_cons l i no_exit h)) ∙ k)
+    exit_turn = rw q (sym (ap (exit_in x) (drop-cons l i no_exit h)) ∙ k)
 
     pub exit_found : e.thread ≡ x → some e.cause ≡ w
-    exit_found t = rw (eq_eqb e.thread x t) at exit_turn
+    exit_found t = rw (eq-eqb e.thread x t) at exit_turn
 
     pub exit_on : (e.thread ≢ x) → exit_in x (drop (i + 1) l) ≡ w
-    exit_on t = rw add_one (rw (ne_eqb e.thread x t) at exit_turn)
+    exit_on t = rw add-one (rw (ne_eqb e.thread x t) at exit_turn)
 
 -- its answer
 module _ (a : List ℕ) (s : sound_area a ≡ true) (x : ℕ) where

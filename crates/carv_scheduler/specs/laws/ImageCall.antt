@@ -15,6 +15,6 @@ module _ (a : List ℕ) where
 
   pub image_filled : length a ≡ 512 → (a' : List ℕ) → a' ≡ register_image → Filled a 0 a'
   image_filled h a' q = record {
-    size = λ e. absurd (true≢false (sym (eq_eqb (length a) 512 h) ∙ e));
+    size = λ e. absurd (true≢false (sym (eq-eqb (length a) 512 h) ∙ e));
     filled = λ e. (refl, q);
   }

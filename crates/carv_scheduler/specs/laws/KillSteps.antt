@@ -42,7 +42,7 @@ QueuedAt q x Nothing = without x q ≡ q
 
 queued_step : (k : ℕ) (q : List ℕ) (x : ℕ) (b : Bool) → (k == x) ≡ b → (p : Found) → QueuedAt q x p → QueuedAt (k ∷ q) x (cond b (At zero) (after p))
 unfolding remove_at
-queued_step k q x true e p l = (omega arith, λ d. rw e (without_absent x q (rw (← eqb_true k x e) (distinct_first k q d))))
+queued_step k q x true e p l = (omega arith, λ d. rw e (without_absent x q (rw (← eqb-true k x e) (distinct_first k q d))))
 queued_step k q x false e (At i) l = (let w = l.0 in omega arith, λ d. rw e (ap (λ (r : List ℕ). k ∷ r) (l.1 (distinct_rest k q d))))
 queued_step k q x false e Nothing l = rw e (ap (λ (r : List ℕ). k ∷ r) l)
 
@@ -77,7 +77,7 @@ module _ (a : List ℕ) (x i : ℕ) (h : Here no_row (decode a).threads x i) (c 
       → Leaves a' (with_threads (slice_set (decode a).threads i (with_state dead no_wait (slice_index_or (decode a).threads i no_row))) (decode a)) → Leaves a' (with_threads (killed x (decode a)) (decode a))
   killed_current q a' l = leaves_as a' _ _
       (ap (λ (m : List (Row Thread)). with_threads m (decode a))
-      (state_of (decode a).threads x i h dead no_wait ∙ sym (picked (x == (decode a).current) (eq_eqb x (decode a).current (q ∙ e))))) l
+      (state_of (decode a).threads x i h dead no_wait ∙ sym (picked (x == (decode a).current) (eq-eqb x (decode a).current (q ∙ e))))) l
     where
       picked : (b : Bool) → b ≡ true → cond b (alter x (become dead no_wait) (decode a).threads) (erase x (decode a).threads) ≡ alter x (become dead no_wait) (decode a).threads
       picked b z = rw z
@@ -92,7 +92,7 @@ module _ (a : List ℕ) (x i : ℕ) (h : Here no_row (decode a).threads x i) (c 
 -- The answer.
 module _ (t : Thread) where
   pub ended_wait : t.state ≡ 4 → Ended t.wait ≡ wait_answer t
-  ended_wait e = rw (eq_eqb t.state 4 e)
+  ended_wait e = rw (eq-eqb t.state 4 e)
 
   pub ended_none : (t.state ≢ 4) → EndedNothing ≡ wait_answer t
   ended_none e = rw (ne_eqb t.state 4 e)

@@ -35,9 +35,9 @@ pub record Wiped (f n : ℕ) (a a' : List ℕ) : Type 0 where
 
 cleared : (l : List ℕ) (n : ℕ) → length l ≡ n → wipe 0 n l ≡ zeros n
 cleared l n e =
-    let z : take n (zeros n) ≡ zeros n = take_all n (zeros n) (omega (arith, length_replicate {A = ℕ} n 0)) in
-    let d : drop (0 + n) l ≡ [] = drop_of_length_le l {i = 0 + n} (omega arith) in
-    rw (z, d) (append_nil (zeros n))
+    let z : take n (zeros n) ≡ zeros n = take_all n (zeros n) (omega (arith, length-replicate {A = ℕ} n 0)) in
+    let d : drop (0 + n) l ≡ [] = drop_of_length-le l {i = 0 + n} (omega arith) in
+    rw (z, d) (append-nil (zeros n))
 
 -- `clear` was lent a part, and left p
 pub wiped : (f n : ℕ) (a p : List ℕ) → f + n ≤ length a → length p ≡ n → words p ≡ wipe 0 (n / 8) (words (part f n a)) → Wiped f n a (put_part f n a p)
@@ -59,7 +59,7 @@ registry_opened cpu memory a p r z y c h =
     record {
       size = length_put 0 45_072 a p fits y;
       registry = rw (part_same 0 45_072 a p fits y)
-          (h.opened (eq_eqb (length (part 0 45_072 a)) 45_072 (length_part 0 45_072 a fits)) (le_leb cpu period c)).1;
+          (h.opened (eq-eqb (length (part 0 45_072 a)) 45_072 (length_part 0 45_072 a fits)) (le-leb cpu period c)).1;
     }
 
 -- zero words hold no row
@@ -79,16 +79,16 @@ inside f n g m l h b =
     (λ i a.
     let e : i < m = omega arith in
     let q : f + (g + i) ≡ (f + g) + i = omega arith in
-    get_or_take m (drop g (part f n l)) i 0 e ∙ get_or_drop g (part f n l) i 0 ∙ get_or_take n (drop f l) (g + i) 0 (omega arith) ∙ get_or_drop f l (g + i) 0
-    ∙ ap (λ (j : ℕ). slice_index l j) q ∙ sym (get_or_take m (drop (f + g) l) i 0 e ∙ get_or_drop (f + g) l i 0))
+    get_or-take m (drop g (part f n l)) i 0 e ∙ get_or-drop g (part f n l) i 0 ∙ get_or-take n (drop f l) (g + i) 0 (omega arith) ∙ get_or-drop f l (g + i) 0
+    ∙ ap (λ (j : ℕ). slice_index l j) q ∙ sym (get_or-take m (drop (f + g) l) i 0 e ∙ get_or-drop (f + g) l i 0))
 
 zeros_inside : (n g m : ℕ) → g + m ≤ n → take m (drop g (zeros n)) ≡ zeros m
 zeros_inside n g m b =
-    let size : length (part g m (zeros n)) ≡ m = length_part g m (zeros n) (omega (arith, length_replicate {A = ℕ} n 0)) in
-    ext_get_or 0 (part g m (zeros n)) (zeros m) (size ∙ sym (length_replicate {A = ℕ} m 0))
+    let size : length (part g m (zeros n)) ≡ m = length_part g m (zeros n) (omega (arith, length-replicate {A = ℕ} n 0)) in
+    ext_get_or 0 (part g m (zeros n)) (zeros m) (size ∙ sym (length-replicate {A = ℕ} m 0))
     (λ i a.
     let e : i < m = omega arith in
-    get_or_take m (drop g (zeros n)) i 0 e ∙ get_or_drop g (zeros n) i 0 ∙ get_or_replicate {A = ℕ} n (g + i) 0 0 (omega arith) ∙ sym (get_or_replicate {A = ℕ} m i 0 0 e))
+    get_or-take m (drop g (zeros n)) i 0 e ∙ get_or-drop g (zeros n) i 0 ∙ get_or-replicate {A = ℕ} n (g + i) 0 0 (omega arith) ∙ sym (get_or-replicate {A = ℕ} m i 0 0 e))
 
 -- m words of the n that are zero
 wiped_part : (f n : ℕ) (a a' : List ℕ) → Wiped f (n * 8) a a' → f + n * 8 ≤ length a' → (g m : ℕ) → g + m ≤ n → words (part (f + g * 8) (m * 8) a') ≡ zeros m
@@ -133,21 +133,21 @@ module _ (cpu memory : ℕ) (a : List ℕ) where
   pub opened_size : (length a ≢ 68_144) → Opened cpu memory a (Refused 1) a
   opened_size n = record {
     size = λ q. (refl, refl);
-    share = λ q. absurd (n (eqb_true (length a) 68_144 q));
-    opened = λ q. absurd (n (eqb_true (length a) 68_144 q));
+    share = λ q. absurd (n (eqb-true (length a) 68_144 q));
+    opened = λ q. absurd (n (eqb-true (length a) 68_144 q));
   }
 
   module _ (z : length a ≡ 68_144) where
     pub opened_share : period < cpu → Opened cpu memory a (Refused 2) a
     opened_share h = record {
-      size = λ q. absurd (eqb_false (length a) 68_144 q z);
+      size = λ q. absurd (eqb-false (length a) 68_144 q z);
       share = λ q s. (refl, refl);
-      opened = λ q s. absurd (true≢false (sym s ∙ lt_leb cpu period h));
+      opened = λ q s. absurd (true≢false (sym s ∙ lt-leb cpu period h));
     }
 
     pub opened_done : cpu ≤ period → (a' : List ℕ) (s : Board) → Leaves a' s → s ≡ opening cpu memory → Opened cpu memory a Done a'
     opened_done h a' s l e = record {
-      size = λ q. absurd (eqb_false (length a) 68_144 q z);
-      share = λ q n. absurd (true≢false (sym (le_leb cpu period h) ∙ n));
+      size = λ q. absurd (eqb-false (length a) 68_144 q z);
+      share = λ q n. absurd (true≢false (sym (le-leb cpu period h) ∙ n));
       opened = λ q y. (refl, is_area a' (opening cpu memory) (record { formed = l.formed; is = l.is ∙ e }) (opening_sound cpu memory h));
     }

@@ -15,19 +15,19 @@ use Rattle.carv_scheduler.specs.laws.Rows.{no_row}
 -- the row at place i of rising ids is the one with its id
 module _ {A : Type 0} (d : Row A) where
   above : (m : List (Row A)) (l n i : ℕ) → Rising l n m → i < length m → l ≤ (slice_index_or m i d).id
-  above [] l n i u h = absurd (not_suc_le_zero h)
+  above [] l n i u h = absurd (not-suc-le-zero h)
   above (r ∷ m) l n zero u h = u.0
-  above (r ∷ m) l n (suc i) u h = omega (arith, u.0, above m (suc r.id) n i u.1 (le_of_suc_le_suc h))
+  above (r ∷ m) l n (suc i) u h = omega (arith, u.0, above m (suc r.id) n i u.1 (le_of_suc-le-suc h))
 
   pub here_at : (m : List (Row A)) (l n i : ℕ) → Rising l n m → i < length m → Here d m (slice_index_or m i d).id i
   unfolding remove_at
-  here_at [] l n i u h = absurd (not_suc_le_zero h)
+  here_at [] l n i u h = absurd (not-suc-le-zero h)
   here_at (r ∷ m) l n zero u h =
-      let e : nat_eq r.id r.id ≡ true = eq_eqb r.id r.id refl in
+      let e : nat_eq r.id r.id ≡ true = eq-eqb r.id r.id refl in
       record { within = h; same = refl; is = rw e; changed = λ f. rw e; erased = rw e }
   here_at (r ∷ m) l n (suc i) u h =
-      let k = here_at m (suc r.id) n i u.1 (le_of_suc_le_suc h) in
-      let e : nat_eq r.id (slice_index_or m i d).id ≡ false = ne_eqb r.id (slice_index_or m i d).id (λ q. omega (arith, above m (suc r.id) n i u.1 (le_of_suc_le_suc h))) in
+      let k = here_at m (suc r.id) n i u.1 (le_of_suc-le-suc h) in
+      let e : nat_eq r.id (slice_index_or m i d).id ≡ false = ne_eqb r.id (slice_index_or m i d).id (λ q. omega (arith, above m (suc r.id) n i u.1 (le_of_suc-le-suc h))) in
       record {
         within = h;
         same = refl;

@@ -34,7 +34,7 @@ module _ (b : Board) (x : ℕ) (ex : x ≡ b.current) where
   back_stays f = let e : is running (thread b.threads b.current) ≡ false = rw ex at f in rw (e, and_false (not (b.current == idle)))
 
   back_idle : x ≡ idle → put_back b ≡ b
-  back_idle i = rw (eq_eqb b.current idle (sym ex ∙ i))
+  back_idle i = rw (eq-eqb b.current idle (sym ex ∙ i))
 
   back_goes : (x ≢ idle) → is running (thread b.threads x) ≡ true
       → put_back b ≡ with_queue (b.queue ++ (x ∷ [])) (with_threads (alter x (become ready no_wait) b.threads) b)
@@ -78,7 +78,7 @@ module _ (a : List ℕ) (s : sound_area a ≡ true) (x : ℕ) (ex : x ≡ (decod
             let e = back_goes (decode a) x ex n (sym (state_is 3) ∙ ap (λ (z : ℕ). nat_eq z 3) run) in
             let m = (decode a).threads in
             let t : thread (alter x (become ready no_wait) m) x ≡ become ready no_wait (thread m x) =
-            thread_alter m x (become ready no_wait) (here_has m x i h) x ∙ ap (λ (z : Bool). cond z (become ready no_wait (thread m x)) (thread m x)) (eq_eqb x x refl) in (
+            thread_alter m x (become ready no_wait) (here_has m x i h) x ∙ ap (λ (z : Bool). cond z (become ready no_wait (thread m x)) (thread m x)) (eq-eqb x x refl) in (
               sym (ap (λ (b : Board). is dead (thread b.threads x)) e ∙ ap (is dead) t),
               leaves_as a₂ _ _ (ap (λ (b : Board). with_queue (b.queue ++ (x ∷ [])) b) l.is
                   ∙ ap (λ (z : List (Row Thread)). with_queue ((decode a).queue ++ (x ∷ [])) (with_threads z (decode a))) (state_of m x i h 2 no_wait) ∙ sym e) k,
@@ -87,7 +87,7 @@ module _ (a : List ℕ) (s : sound_area a ≡ true) (x : ℕ) (ex : x ≡ (decod
 -- The answer.
 module _ (old x : ℕ) (b : Board) where
   pub says_same : x ≡ old → Values old x b NoSwitch
-  says_same e = record { number = refl; value = rw (eq_eqb x old e) }
+  says_same e = record { number = refl; value = rw (eq-eqb x old e) }
 
   module _ (n : x ≡ old → ⊥) where
     switched : (r : Option ℕ) → root_of (thread b.threads x) ≡ r → some (switch_value old (choice x b) b) ≡ some (switch old x r)
@@ -100,7 +100,7 @@ module _ (old x : ℕ) (b : Board) where
       pub says_kernel : y ≡ 0 → Values old x b (SwitchToKernel old x)
       says_kernel z = record {
         number = refl;
-        value = sym (switched none (ap root_of (here_thread b.threads x i h) ∙ rw (eq_eqb (get_or b.threads i no_row).it.spaces.is 0 (sym ey ∙ z))));
+        value = sym (switched none (ap root_of (here_thread b.threads x i h) ∙ rw (eq-eqb (get_or b.threads i no_row).it.spaces.is 0 (sym ey ∙ z))));
       }
 
       pub says_root : (y ≢ 0) → (r : ℕ) → r ≡ (get_or b.threads i no_row).it.spaces.root → Values old x b (Switch old x r)
@@ -123,14 +123,14 @@ module _ (a : List ℕ) (k : WellFormed a) (x : ℕ) (g : Bool) where
   goes m e a' l = leaves_as a' _ _ (ap (λ (z : List (Row Thread)). with_threads z (decode a)) (sym e)) l
 
   pub leaves_not : not g ≡ true → Leaving x g a a
-  leaves_not e = goes (decode a).threads (rw (not_true g e)) a (unchanged a k)
+  leaves_not e = goes (decode a).threads (rw (not-true g e)) a (unchanged a k)
 
   module _ (e : not g ≡ false) where
     pub leaves_at : (i : ℕ) → Here no_row (decode a).threads x i → (a' : List ℕ) → Leaves a' (with_threads (remove_at (decode a).threads i) (decode a)) → Leaving x g a a'
-    leaves_at i h a' l = goes (remove_at (decode a).threads i) (rw (not_false g e) h.erased) a' l
+    leaves_at i h a' l = goes (remove_at (decode a).threads i) (rw (not-false g e) h.erased) a' l
 
     pub leaves_gone : Gone (decode a).threads x → Leaving x g a a
-    leaves_gone h = goes (decode a).threads (rw (not_false g e) h.erased) a (unchanged a k)
+    leaves_gone h = goes (decode a).threads (rw (not-false g e) h.erased) a (unchanged a k)
 
 -- A switch is counted.
 pub counted : (a : List ℕ) (x n w : ℕ) → n ≡ (decode a).switches → w ≡ (n + 1) % 2 ^ 64 → (a' : List ℕ) → Leaves a' (with_head x w (decode a))
@@ -142,7 +142,7 @@ module _ (b : Board) (x old : ℕ) (eo : old ≡ b.current) (b₁ : Board) (e₁
   stayed : x ≡ old → b₁ ≡ switch_to (choice x b) b
   stayed e =
       let q : x ≡ b.current = e ∙ eo in
-      e₁ ∙ rw (eq_eqb x b.current q, q)
+      e₁ ∙ rw (eq-eqb x b.current q, q)
 
   module _ (n : x ≡ old → ⊥) (g : Bool) (eg : g ≡ is dead (thread b.threads old)) (b₂ b₃ : Board) (e₂ : b₂ ≡ with_head x ((b₁.switches + 1) % 2 ^ 64) b₁)
       (e₃ : b₃ ≡ with_threads (cond g (erase old b₂.threads) b₂.threads) b₂) where
@@ -170,11 +170,11 @@ module _ (a : List ℕ) (x old : ℕ) (eo : old ≡ (decode a).current) (r : Ans
 -- The plan.
 module _ (n : ℕ) (b : Board) where
   plan_late : 18_446_744_073_709 < n → plan n b ≡ refuse 3 b
-  plan_late h = rw (lt_leb n 18_446_744_073_709 h)
+  plan_late h = rw (lt-leb n 18_446_744_073_709 h)
 
   plan_done : n ≤ 18_446_744_073_709
       → plan n b ≡ accept (some (switch_value b.current (choice_of (n * tick_ns) (put_back b)) (put_back b))) (switch_to (choice_of (n * tick_ns) (put_back b)) (put_back b))
-  plan_done h = rw (le_leb n 18_446_744_073_709 h)
+  plan_done h = rw (le-leb n 18_446_744_073_709 h)
 
 module _ (a : List ℕ) (s : sound_area a ≡ true) (n : ℕ) where
   pub plan_refused : 18_446_744_073_709 < n → Serves (plan n) a (Refused 3) a

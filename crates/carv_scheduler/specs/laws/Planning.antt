@@ -33,10 +33,10 @@ guess_behind (At i) = cond (nat_lt i 128) (i + 1) 0
 guess_behind Nothing = 0
 
 pub guess_on : (p : Found) (i : ℕ) → p ≡ At i → i < 128 → i + 1 ≡ guess_behind p
-guess_on p i e h = rw (e, lt_ltb i 128 h)
+guess_on p i e h = rw (e, lt-ltb i 128 h)
 
 pub guess_over : (p : Found) (i : ℕ) → p ≡ At i → 128 ≤ i → 0 ≡ guess_behind p
-guess_over p i e h = rw (e, le_ltb i 128 h)
+guess_over p i e h = rw (e, le-ltb i 128 h)
 
 pub guess_none : (p : Found) → p ≡ Nothing → 0 ≡ guess_behind p
 guess_none p e = rw e
@@ -119,7 +119,7 @@ renewing a k time i r p z w = record { answer = w.answer; area = registry_writte
 module _ (time : ℕ) (a : List ℕ) (k : WellFormed a) where
   module _ (p : BudgetId) (x : ℕ) (e : x ≡ p.is) where
     pub tests_free : x ≡ 0 → Tests time p a true a
-    tests_free z = let t = eq_eqb p.is 0 (sym e ∙ z) in record { answer = rw t; area = rw t (unchanged a k) }
+    tests_free z = let t = eq-eqb p.is 0 (sym e ∙ z) in record { answer = rw t; area = rw t (unchanged a k) }
 
     pub tests_budget : (x ≢ 0) → (i : ℕ) → i ≡ p.id → (r : Bool) (a' : List ℕ) → Renewing time i a r a' → Tests time p a r a'
     tests_budget n i q r a' w =

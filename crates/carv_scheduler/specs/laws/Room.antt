@@ -22,14 +22,14 @@ length_erased (r ∷ m) i h = test (r.id == i)
 fewer : (q : List ℕ) (m : List (Row Thread)) (l n : ℕ) → Rising l n m → distinct q ≡ true → ((j : ℕ) → member j q ≡ true → has m j ≡ true) → length q ≤ length m
 fewer [] m l n u d h = omega arith
 fewer (x ∷ q) m l n u d h =
-    let here : has m x ≡ true = h x (rw (eq_eqb x x refl)) in
+    let here : has m x ≡ true = h x (rw (eq-eqb x x refl)) in
     let rest : length q ≤ length (erase x m) = fewer q (erase x m) l n (rising_erase m l n x u) (distinct_rest x q d)
     (λ j k. rw (has_erase m x l n u j, other j k, h j (or_true (x == j) k))) in
     omega (arith, length_erased m x here)
   where
     other : (j : ℕ) → member j q ≡ true → (x == j) ≡ false
     other j k = test (x == j)
-        (λ e. absurd (true≢false (sym (rw (eqb_true x j e) k) ∙ distinct_first x q d)))
+        (λ e. absurd (true≢false (sym (rw (eqb-true x j e) k) ∙ distinct_first x q d)))
         (λ e. e)
 
 pub queue_room : (b : Board) → Sound b → (i : ℕ) → has b.threads i ≡ true → is ready (thread b.threads i) ≡ false → (i == idle) ≡ false → length b.queue < 127
@@ -44,5 +44,5 @@ queue_room b o i h s k =
   where
     apart : (j : ℕ) → member j b.queue ≡ true → (i == j) ≡ false
     apart j q = test (i == j)
-        (λ e. absurd (true≢false (sym (rw (eqb_true i j e) (queued_ready b o j q)) ∙ s)))
+        (λ e. absurd (true≢false (sym (rw (eqb-true i j e) (queued_ready b o j q)) ∙ s)))
         (λ e. e)

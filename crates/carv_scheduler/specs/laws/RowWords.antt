@@ -38,14 +38,14 @@ sets_set : (l : List ℕ) (o : ℕ) (vs : List ℕ) (c v k : ℕ) → c < length
 sets_set l o [] c v k h e = absurd (omega arith)
 sets_set l o (x ∷ vs) zero v k h e =
     let q : k ≡ o = omega arith in
-    rw q (sets_past (slice_set l o x) (suc o) o v vs (omega arith) ∙ ap (λ (m : List ℕ). sets m (suc o) vs) (set_set l o x v))
+    rw q (sets_past (slice_set l o x) (suc o) o v vs (omega arith) ∙ ap (λ (m : List ℕ). sets m (suc o) vs) (set-set l o x v))
 sets_set l o (x ∷ vs) (suc c) v k h e = sets_set (slice_set l o x) (suc o) vs c v k (omega arith) (omega arith)
 
 sets_sets : (l : List ℕ) (o : ℕ) (vs : List ℕ) (c : ℕ) (us : List ℕ) (k : ℕ) → c + length us ≤ length vs → k ≡ o + c → sets (sets l o vs) k us ≡ sets l o (sets vs c us)
 sets_sets l o vs c [] k h e = refl
 sets_sets l o vs c (u ∷ us) k h e =
     ap (λ (m : List ℕ). sets m (suc k) us) (sets_set l o vs c u k (omega arith) e)
-    ∙ sets_sets l o (slice_set vs c u) (suc c) us (suc k) (let z = length_set vs c u in omega arith) (omega arith)
+    ∙ sets_sets l o (slice_set vs c u) (suc c) us (suc k) (let z = length-set vs c u in omega arith) (omega arith)
 
 -- the words of a record, vs, in which some are written
 
@@ -59,8 +59,8 @@ module _ (l : List ℕ) (rows : List (Row Thread)) (h : Holds thread_fields 21 l
   row_same : sets l (i * 21 + 1) (thread_fields (slice_index_or rows i no_row)) ≡ l
   row_same =
       let k : Holds thread_fields 21 (sets l (i * 21 + 1) (thread_fields (slice_index_or rows i no_row))) rows =
-      rw (set_get_or rows i no_row) at (holds_set thread_fields 21 wide l rows h i (slice_index_or rows i no_row) a) in
-      holds_inj thread_fields 21 wide _ l rows k h (length_sets l (i * 21 + 1) (thread_fields (slice_index_or rows i no_row)))
+      rw (set-get_or rows i no_row) at (holds_set thread_fields 21 wide l rows h i (slice_index_or rows i no_row) a) in
+      holds_inj thread_fields 21 wide _ l rows k h (length-sets l (i * 21 + 1) (thread_fields (slice_index_or rows i no_row)))
 
   state_set : (s : ℕ) (w : Wait) → set_state l i s w ≡ set_thread l i (with_state s w (slice_index_or rows i no_row))
   unfolding set_state set_thread

@@ -46,7 +46,7 @@ module _ (r : Registry) (w v u : List ℕ) (c s : ℕ) where
       let (registry, (few, (rising, (threads, (dist, (queue, (here, (active, (idle_here, (idle_state, (idle_runs, (exits, (causes, z)))))))))))))
       = all_told (board_tests b) h in
       record {
-        few = rw (length_threads w) at (leb_true (length (threads_in w)) 128 few);
+        few = rw (length_threads w) at (leb-true (length (threads_in w)) 128 few);
         threads = record {
           ordered = rises_told (threads_in w) 0 (2 ^ 64) rising;
           current = record { here = here; active = active };
@@ -54,7 +54,7 @@ module _ (r : Registry) (w v u : List ℕ) (c s : ℕ) where
           queue = record { distinct = dist; queued = queue };
           threads = λ k l. tests_told b _ _ (every_out (λ i t. all (thread_tests b i t)) (slice_index w 0) (thread_at w) threads k l);
         };
-        few_exits = rw (length_exits u) at (leb_true (length (exits_in u)) 32 exits);
+        few_exits = rw (length_exits u) at (leb-true (length (exits_in u)) 32 exits);
         causes = causes;
       }
 
@@ -64,8 +64,8 @@ module _ (r : Registry) (w v u : List ℕ) (c s : ℕ) where
       let b = board_in r w v u c s in
       let T = F.threads in
       let threads = every_in (λ i t. all (thread_tests b i t)) (slice_index w 0) (thread_at w) (λ k l. tests_shown b _ _ (T.threads k l)) in
-      let few = le_leb (length (threads_in w)) 128 (rw (length_threads w) F.few) in
-      let few_exits = le_leb (length (exits_in u)) 32 (rw (length_exits u) F.few_exits) in
+      let few = le-leb (length (threads_in w)) 128 (rw (length_threads w) F.few) in
+      let few_exits = le-leb (length (exits_in u)) 32 (rw (length_exits u) F.few_exits) in
       all_shown (board_tests b) (
         registry,
         (

@@ -24,8 +24,8 @@ use Rattle.carv_scheduler.specs.laws.SoundRows.{tab_snoc, each_out, each_in, one
 member_tab : (n : ℕ) (f : ℕ → ℕ) (k : ℕ) → k < n → member (f k) (tab n f) ≡ true
 unfolding tab
 member_tab zero f k l = absurd (omega arith)
-member_tab (suc n) f zero l = rw (eq_eqb (f zero) (f zero) refl)
-member_tab (suc n) f (suc k) l = rw (member_tab n (λ i. f (suc i)) k (omega arith)) (or_true (f zero == f (suc k)))
+member_tab (suc n) f zero l = rw (eq-eqb (f zero) (f zero) refl)
+member_tab (suc n) f (suc k) l = rw (member_tab n (λ i. f (suc i)) k (omega arith)) (or-true (f zero == f (suc k)))
 
 -- of distinct ids none stands before
 distinct_tab : (n : ℕ) (f : ℕ → ℕ) → distinct (tab n f) ≡ true → (j : ℕ) → j < n → member (f j) (tab j f) ≡ false
@@ -51,10 +51,10 @@ bit_is false = refl
 pub walk_none : (w v : List ℕ) → slice_index w 0 ≤ 128 → Walk w v 0 (zeros 128)
 unfolding tab
 walk_none w v few = record {
-  size = length_replicate {A = ℕ} 128 0;
+  size = length-replicate {A = ℕ} 128 0;
   queued = λ k l. absurd (omega arith);
   distinct = refl;
-  marks = λ k l. get_or_replicate {A = ℕ} 128 k 0 0 (omega arith);
+  marks = λ k l. get_or-replicate {A = ℕ} 128 k 0 0 (omega arith);
 }
 
 -- ---- one turn. x is the id at place j
@@ -66,7 +66,7 @@ asked {w} {v} j x e l S = rw (e, key_is v j) (each_out (queued w) (slice_index v
 
 module _ {w v : List ℕ} {j x : ℕ} (e : x ≡ slice_index v (j + 1)) (l : j < slice_index v 0) where
   pub off_idle : x ≡ idle → SoundQueue w v → ⊥
-  off_idle q S = false≢true (rw (eq_eqb x idle q) at (asked j x e l S))
+  off_idle q S = false≢true (rw (eq-eqb x idle q) at (asked j x e l S))
 
   rest : SoundQueue w v → (has (threads_in w) x && is ready (thread (threads_in w) x)) ≡ true
   rest S = second (not (x == idle)) (has (threads_in w) x && is ready (thread (threads_in w) x)) (asked j x e l S)
@@ -78,7 +78,7 @@ module _ {w v : List ℕ} {j x : ℕ} (e : x ≡ slice_index v (j + 1)) (l : j <
     pub off_state : ((it_at w i).state ≢ 2) → SoundQueue w v → ⊥
     off_state ne S =
         let r : is ready (thread (threads_in w) x) ≡ true = second (has (threads_in w) x) (is ready (thread (threads_in w) x)) (rest S) in
-        ne (eqb_true (it_at w i).state 2 (rw (stands_thread s) at r))
+        ne (eqb-true (it_at w i).state 2 (rw (stands_thread s) at r))
 
     module _ {ms : List ℕ} (W : Walk w v j ms) where
       -- the id is the one at place i
@@ -94,14 +94,14 @@ module _ {w v : List ℕ} {j x : ℕ} (e : x ≡ slice_index v (j + 1)) (l : j <
 
       module _ (o : Rise w (slice_index w 0)) (few : slice_index_or w 0 0 ≤ 128) (busy : x ≡ idle → ⊥) (state : (it_at w i).state ≡ 2) (free : slice_index_or ms i 0 ≡ 0) where
         passes : queued w (key_at v j) ≡ true
-        passes = rw (← key_is v j, ← e, ne_eqb x idle busy, stands_has s, stands_thread s) (eq_eqb (it_at w i).state 2 state)
+        passes = rw (← key_is v j, ← e, ne_eqb x idle busy, stands_has s, stands_thread s) (eq-eqb (it_at w i).state 2 state)
 
         new : member (key_at v j) (tab j (key_at v)) ≡ false
         new = rw same_id (bit_zero (member (id_at w i) (tab j (key_at v))) (sym (W.marks i s.inside) ∙ free))
 
         -- one id more in the queue
         joined : (k : ℕ) → member (id_at w k) (tab (j + 1) (key_at v)) ≡ (member (id_at w k) (tab j (key_at v)) || id_at w i == id_at w k)
-        joined k = rw (add_one j, tab_snoc j (key_at v), ← same_id) (member_join (id_at w k) (tab j (key_at v)) (key_at v j))
+        joined k = rw (add-one j, tab_snoc j (key_at v), ← same_id) (member_join (id_at w k) (tab j (key_at v)) (key_at v j))
 
         other : (k : ℕ) → k < slice_index w 0 → k ≢ i → (id_at w i == id_at w k) ≡ false
         other k h ne = ne_eqb (id_at w i) (id_at w k) (λ q. ⊎_elim
@@ -111,14 +111,14 @@ module _ {w v : List ℕ} {j x : ℕ} (e : x ≡ slice_index v (j + 1)) (l : j <
 
         pub walk_on : Walk w v (j + 1) (slice_set ms i 1)
         walk_on = record {
-          size = length_set ms i 1 ∙ W.size;
+          size = length-set ms i 1 ∙ W.size;
           queued = one_more (λ (k : ℕ). queued w (key_at v k) ≡ true) j W.queued passes;
-          distinct = rw (add_one, tab_snoc) (distinct_join (tab j (key_at v)) (key_at v j) W.distinct new);
+          distinct = rw (add-one, tab_snoc) (distinct_join (tab j (key_at v)) (key_at v j) W.distinct new);
           marks = λ k h. ⊎_elim
-              (λ (q : k ≡ i). rw (q, joined i, eq_eqb (id_at w i) (id_at w i) refl, or_true (member (id_at w i) (tab j (key_at v))))
-              (get_or_set_same ms i 1 0 (omega (arith, s.inside, W.size))))
-              (λ (q : k ≢ i). rw (joined k, other k h q, or_false (member (id_at w k) (tab j (key_at v))))
-              (get_or_set_other ms i k 1 0 q ∙ W.marks k h))
+              (λ (q : k ≡ i). rw (q, joined i, eq-eqb (id_at w i) (id_at w i) refl, or-true (member (id_at w i) (tab j (key_at v))))
+              (get_or-set_same ms i 1 0 (omega (arith, s.inside, W.size))))
+              (λ (q : k ≢ i). rw (joined k, other k h q, or-false (member (id_at w k) (tab j (key_at v))))
+              (get_or-set_other ms i k 1 0 q ∙ W.marks k h))
               (same_or_not k i);
         }
 

@@ -69,11 +69,11 @@ one_more C i h e k l = ⊎_elim (h k) (λ (a : i ≤ k). let q : i ≡ k = omega
 
 -- the word at place j of the queue
 pub key_is : (v : List ℕ) (j : ℕ) → slice_index v (j + 1) ≡ key_at v j
-key_is v j = ap (λ (k : ℕ). slice_index v (k + 1)) (sym (mul_one j))
+key_is v j = ap (λ (k : ℕ). slice_index v (k + 1)) (sym (mul-one j))
 
 -- and the words behind the queue
 pub behind_queue : (v : List ℕ) (m : ℕ) → m ≡ slice_index v 0 → all_zero (drop (m + 1) v) ≡ all_zero (behind 1 v)
-behind_queue v m e = ap (λ (k : ℕ). all_zero (drop (k + 1) v)) (e ∙ sym (mul_one (slice_index v 0)))
+behind_queue v m e = ap (λ (k : ℕ). all_zero (drop (k + 1) v)) (e ∙ sym (mul-one (slice_index v 0)))
 
 -- ---- the order of the threads' ids
 

@@ -34,8 +34,8 @@ module _ (w : List ℕ) (c : ℕ) where
     pub idle_runs : s ≡ 3 → Idle w c
     idle_runs h = record {
       here = stands_has t;
-      state = rw (is_state 3, eq_eqb s 3 h) (or_true (is ready (thread (threads_in w) idle)));
-      runs = implying (c == idle) (is running (thread (threads_in w) idle)) (λ _. is_state 3 ∙ eq_eqb s 3 h);
+      state = rw (is_state 3, eq-eqb s 3 h) (or-true (is ready (thread (threads_in w) idle)));
+      runs = implying (c == idle) (is running (thread (threads_in w) idle)) (λ _. is_state 3 ∙ eq-eqb s 3 h);
     }
 
     pub idle_else : (s ≢ 3) → (s ≢ 2) → Idle w c → ⊥
@@ -51,7 +51,7 @@ module _ (w : List ℕ) (c : ℕ) where
         (λ a. rw a (record {
           so = λ f. record {
             here = stands_has t;
-            state = rw (is_state 2, eq_eqb s 2 g);
+            state = rw (is_state 2, eq-eqb s 2 g);
             runs = implying (c == idle) (is running (thread (threads_in w) idle)) (λ b. absurd (false≢true (sym a ∙ b)));
           };
           not = λ f. absurd (false≢true (sym f));

@@ -19,30 +19,30 @@ use Rattle.carv_scheduler.specs.laws.SoundWalk.{id_at, it_at, state_fits, wait_f
 -- `wait_fits`
 module _ (s k n : ℕ) where
   pub wait_blocked : s ≡ 4 → (r : Bool) → r ≡ wait_listed k → r ≡ wait_fits s k n
-  wait_blocked e r q = rw (eq_eqb s 4 e) q
+  wait_blocked e r q = rw (eq-eqb s 4 e) q
 
   pub wait_kind : (s ≢ 4) → (k ≢ 0) → false ≡ wait_fits s k n
   wait_kind e h = rw (ne_eqb s 4 e, ne_eqb k 0 h)
 
   pub wait_number : (s ≢ 4) → k ≡ 0 → (n == 0) ≡ wait_fits s k n
-  wait_number e h = rw (ne_eqb s 4 e, eq_eqb k 0 h)
+  wait_number e h = rw (ne_eqb s 4 e, eq-eqb k 0 h)
 
 -- `budget_fits`
 module _ (i is b : ℕ) where
   pub budget_paid : unpaid i ≡ false → (is == 1) ≡ budget_fits i is b
   budget_paid e = test (is == 0)
-      (λ a. rw (a, e, eqb_true is 0 a) (sym (and_false (b == 0))))
-      (λ a. rw (a, e) (sym (and_true (is == 1))))
+      (λ a. rw (a, e, eqb-true is 0 a) (sym (and-false (b == 0))))
+      (λ a. rw (a, e) (sym (and-true (is == 1))))
 
   pub budget_some : unpaid i ≡ true → (is ≢ 0) → false ≡ budget_fits i is b
-  budget_some e h = rw (ne_eqb is 0 h, e) (sym (and_false (is == 1)))
+  budget_some e h = rw (ne_eqb is 0 h, e) (sym (and-false (is == 1)))
 
   pub budget_none : unpaid i ≡ true → is ≡ 0 → (b == 0) ≡ budget_fits i is b
-  budget_none e h = rw (eq_eqb is 0 h, e) (sym (and_true (b == 0)))
+  budget_none e h = rw (eq-eqb is 0 h, e) (sym (and-true (b == 0)))
 
 -- `is_unpaid`
 pub is_first : (i : ℕ) → i ≡ 0 → true ≡ unpaid i
-is_first i e = rw (eq_eqb i 0 e)
+is_first i e = rw (eq-eqb i 0 e)
 
 pub not_first : (i : ℕ) → (i ≢ 0) → (i == idle) ≡ unpaid i
 not_first i h = rw (ne_eqb i 0 h)
@@ -53,36 +53,36 @@ module _ (is s c r : ℕ) where
   space_some h = rw (ne_eqb is 0 h)
 
   pub space_first : is ≡ 0 → (s ≢ 0) → false ≡ space_fits is s c r
-  space_first e h = rw (eq_eqb is 0 e, ne_eqb s 0 h)
+  space_first e h = rw (eq-eqb is 0 e, ne_eqb s 0 h)
 
   pub space_second : is ≡ 0 → s ≡ 0 → (c ≢ 0) → false ≡ space_fits is s c r
-  space_second e a h = rw (eq_eqb is 0 e, eq_eqb s 0 a, ne_eqb c 0 h)
+  space_second e a h = rw (eq-eqb is 0 e, eq-eqb s 0 a, ne_eqb c 0 h)
 
   pub space_third : is ≡ 0 → s ≡ 0 → c ≡ 0 → (r == 0) ≡ space_fits is s c r
-  space_third e a b = rw (eq_eqb is 0 e, eq_eqb s 0 a, eq_eqb c 0 b)
+  space_third e a b = rw (eq-eqb is 0 e, eq-eqb s 0 a, eq-eqb c 0 b)
 
 -- `state_fits`
 module _ (q : Bool) (c i s : ℕ) where
   pub state_low : s < 1 → false ≡ state_fits q c i s
-  state_low h = rw (lt_leb 1 s h)
+  state_low h = rw (lt-leb 1 s h)
 
   pub state_high : 5 < s → false ≡ state_fits q c i s
-  state_high h = rw (lt_leb s 5 h, le_leb 1 s (omega arith))
+  state_high h = rw (lt-leb s 5 h, le-leb 1 s (omega arith))
 
   pub state_dead : s ≡ 5 → (i == c) ≡ state_fits q c i s
-  state_dead e = rw e (sym (and_true (i == c)))
+  state_dead e = rw e (sym (and-true (i == c)))
 
   pub state_ready : s ≡ 2 → (i ≢ idle) → q ≡ state_fits q c i s
-  state_ready e h = rw (e, ne_eqb i idle h) (sym (and_true q))
+  state_ready e h = rw (e, ne_eqb i idle h) (sym (and-true q))
 
   pub state_running : s ≡ 3 → (i ≢ idle) → (i == c) ≡ state_fits q c i s
   state_running e h = rw (e, ne_eqb i idle h)
 
   pub state_idle : 1 ≤ s → s ≤ 5 → (s ≢ 5) → i ≡ idle → true ≡ state_fits q c i s
-  state_idle a b h e = rw (le_leb 1 s a, le_leb s 5 b, ne_eqb s 5 h, eq_eqb i idle e, or_true (not (s == 2)), or_true (not (s == 3)))
+  state_idle a b h e = rw (le-leb 1 s a, le-leb s 5 b, ne_eqb s 5 h, eq-eqb i idle e, or-true (not (s == 2)), or-true (not (s == 3)))
 
   pub state_other : 1 ≤ s → s ≤ 5 → (s ≢ 5) → (s ≢ 2) → (s ≢ 3) → true ≡ state_fits q c i s
-  state_other a b h e f = rw (le_leb 1 s a, le_leb s 5 b, ne_eqb s 5 h, ne_eqb s 2 e, ne_eqb s 3 f)
+  state_other a b h e f = rw (le-leb 1 s a, le-leb s 5 b, ne_eqb s 5 h, ne_eqb s 2 e, ne_eqb s 3 f)
 
 -- the tests of specs/Sound.antt
 module _ (b : Board) (i : ℕ) (t : Thread) where

@@ -35,22 +35,22 @@ picked_ticked n x (r ∷ m) = split (r.id == x) refl (picked_ticked n x m)
   where
     split : (c : Bool) → (r.id == x) ≡ c → pick (is_due n) (alter x ticked m) ≡ pick (is_due n) m
         → pick (is_due n) (cond c (record { id = x; it = ticked r.it } ∷ m) (r ∷ alter x ticked m)) ≡ pick (is_due n) (r ∷ m)
-    split true e h = ap (λ (y : ℕ). cond (is_due n r.it) (y ∷ pick (is_due n) m) (pick (is_due n) m)) (sym (eqb_true r.id x e))
+    split true e h = ap (λ (y : ℕ). cond (is_due n r.it) (y ∷ pick (is_due n) m) (pick (is_due n) m)) (sym (eqb-true r.id x e))
     split false e h = ap (λ (q : List ℕ). cond (is_due n r.it) (r.id ∷ q) q) h
 
 -- `tick`, question by question
 module _ (n : ℕ) (b : Board) where
   pub tick_late : 18_446_744_073_709 < n → tick n b ≡ refuse 3 b
-  tick_late h = rw (lt_leb n 18_446_744_073_709 h)
+  tick_late h = rw (lt-leb n 18_446_744_073_709 h)
 
   pub tick_done : n ≤ 18_446_744_073_709 → tick n b ≡ accept none (wake_all (pick (is_due n) (accounted (n * tick_ns) b).threads) (accounted (n * tick_ns) b))
   unfolding accounted
-  tick_done h = rw (le_leb n 18_446_744_073_709 h, picked_ticked n b.current b.threads)
+  tick_done h = rw (le-leb n 18_446_744_073_709 h, picked_ticked n b.current b.threads)
 
 -- the charge, with and without a budget
 module _ (time : ℕ) (p : BudgetId) (r : Registry) where
   charge_none : p.is ≡ 0 → r ≡ charge_tick time p r
-  charge_none e = rw (eq_eqb p.is 0 e)
+  charge_none e = rw (eq-eqb p.is 0 e)
 
   charge_some : (p.is ≢ 0) → charge_most p.id tick_ns time r ≡ charge_tick time p r
   charge_some e = rw (ne_eqb p.is 0 e)

@@ -67,7 +67,7 @@ module _ (a : List ℕ) (s : sound_area a ≡ true) (x i : ℕ) (h : Here no_row
 
 -- a state that was read
 pub here_blocked : (m : List (Row Thread)) (i k : ℕ) → k ≡ (slice_index_or m i no_row).it.state → k ≡ 4 → is blocked (slice_index_or m i no_row).it ≡ true
-here_blocked m i k e h = eq_eqb (slice_index_or m i no_row).it.state 4 (sym e ∙ h)
+here_blocked m i k e h = eq-eqb (slice_index_or m i no_row).it.state 4 (sym e ∙ h)
 
 -- `wake`
 module _ (a : List ℕ) (s : sound_area a ≡ true) (x : ℕ) (r : Results) where
@@ -104,14 +104,14 @@ module _ (n : ℕ) (t : Thread) (k : ℕ) (ek : k ≡ t.state) where
 
   module _ (h : k ≡ 4) (w : ℕ) (ew : w ≡ t.wait.kind) where
     pub not_asleep : (w ≢ 5) → false ≡ is_due n t
-    not_asleep v = rw (← ek, eq_eqb k 4 h, ← ew, ne_eqb w 5 v)
+    not_asleep v = rw (← ek, eq-eqb k 4 h, ← ew, ne_eqb w 5 v)
 
     module _ (v : w ≡ 5) (d : ℕ) (ed : d ≡ t.wait.number) where
       pub not_yet : n < d → false ≡ is_due n t
-      not_yet l = rw (← ek, eq_eqb k 4 h, ← ew, eq_eqb w 5 v, ← ed, lt_leb d n l)
+      not_yet l = rw (← ek, eq-eqb k 4 h, ← ew, eq-eqb w 5 v, ← ed, lt-leb d n l)
 
       pub due_now : d ≤ n → true ≡ is_due n t
-      due_now l = rw (← ek, eq_eqb k 4 h, ← ew, eq_eqb w 5 v, ← ed, le_leb d n l)
+      due_now l = rw (← ek, eq-eqb k 4 h, ← ew, eq-eqb w 5 v, ← ed, le-leb d n l)
 
 -- one turn
 module _ (n i : ℕ) (b : Board) (u : Rising 0 (2 ^ 64) b.threads) (h : i < length b.threads) where
@@ -124,14 +124,14 @@ module _ (n i : ℕ) (b : Board) (u : Rising 0 (2 ^ 64) b.threads) (h : i < leng
   unfolding wake_place
   turn = test (is_due n (slice_index_or b.threads i no_row).it)
       (λ e.
-      let p : pick (is_due n) (drop i b.threads) ≡ (slice_index_or b.threads i no_row).id ∷ pick (is_due n) (drop (suc i) b.threads) = rw (drop_cons b.threads i no_row h, e) in
+      let p : pick (is_due n) (drop i b.threads) ≡ (slice_index_or b.threads i no_row).id ∷ pick (is_due n) (drop (suc i) b.threads) = rw (drop-cons b.threads i no_row h, e) in
       let q : drop (suc i) (wake (slice_index_or b.threads i no_row).id (results 0 0 0) b).after.threads ≡ drop (suc i) b.threads =
-      ap (drop (suc i)) (threads_after e) ∙ drop_set_lt (suc i) b.threads i _ (omega arith) in
+      ap (drop (suc i)) (threads_after e) ∙ drop-set-lt (suc i) b.threads i _ (omega arith) in
       ap (λ (c : Bool). wake_from n (suc i) (cond c (wake (slice_index_or b.threads i no_row).id (results 0 0 0) b).after b)) e
       ∙ ap (λ (m : List (Row Thread)). wake_all (pick (is_due n) m) (wake (slice_index_or b.threads i no_row).id (results 0 0 0) b).after) q
       ∙ sym (ap (λ (is : List ℕ). wake_all is b) p))
       (λ e.
-      let p : pick (is_due n) (drop i b.threads) ≡ pick (is_due n) (drop (suc i) b.threads) = rw (drop_cons b.threads i no_row h, e) in
+      let p : pick (is_due n) (drop i b.threads) ≡ pick (is_due n) (drop (suc i) b.threads) = rw (drop-cons b.threads i no_row h, e) in
       ap (λ (c : Bool). wake_from n (suc i) (cond c (wake (slice_index_or b.threads i no_row).id (results 0 0 0) b).after b)) e
       ∙ sym (ap (λ (is : List ℕ). wake_all is b) p))
 
@@ -139,7 +139,7 @@ module _ (n i : ℕ) (b : Board) (u : Rising 0 (2 ^ 64) b.threads) (h : i < leng
   unfolding wake_place
   turn_length = test (is_due n (slice_index_or b.threads i no_row).it)
       (λ e. ap (λ (c : Bool). length (cond c (wake (slice_index_or b.threads i no_row).id (results 0 0 0) b).after b).threads) e
-      ∙ ap length (threads_after e) ∙ length_set b.threads i _)
+      ∙ ap length (threads_after e) ∙ length-set b.threads i _)
       (λ e. ap (λ (c : Bool). length (cond c (wake (slice_index_or b.threads i no_row).id (results 0 0 0) b).after b).threads) e)
 
 -- `wake_at`
@@ -183,11 +183,11 @@ module _ (n m i : ℕ) (a₀ a : List ℕ) (w : Waking n m i a₀ a) where
       record {
         count = w.count ∙ sym (ap (λ (b : Board). length b.threads) l.same ∙ turn_length n i (decode a) u k);
         sound = l.sound;
-        rest = ap (λ (j : ℕ). wake_from n j (decode a₁)) (add_one i) ∙ ap (wake_from n (suc i)) l.same ∙ turn n i (decode a) u k ∙ w.rest;
+        rest = ap (λ (j : ℕ). wake_from n j (decode a₁)) (add-one i) ∙ ap (wake_from n (suc i)) l.same ∙ turn n i (decode a) u k ∙ w.rest;
       }
 
   pub waking_ends : m ≤ i → Is a (wake_all (pick (is_due n) (decode a₀).threads) (decode a₀))
   waking_ends h = record {
     sound = w.sound;
-    same = sym (ap (λ (k : List (Row Thread)). wake_all (pick (is_due n) k) (decode a)) (drop_of_length_le (decode a).threads (subst (λ (k : ℕ). k ≤ i) w.count h))) ∙ w.rest;
+    same = sym (ap (λ (k : List (Row Thread)). wake_all (pick (is_due n) k) (decode a)) (drop_of_length-le (decode a).threads (subst (λ (k : ℕ). k ≤ i) w.count h))) ∙ w.rest;
   }

@@ -35,8 +35,8 @@ shift_nothing (suc i) r = shift_nothing i r
 
 shift_at : (i k : ℕ) (r : Registry) → shift i (record { place = At k; registry = r }) ≡ record { place = At (i + k); registry = r }
 unfolding shift
-shift_at zero k r = ap (λ (n : ℕ). record { place = At n; registry = r }) (sym (zero_add k))
-shift_at (suc i) k r = shift_at i (suc k) r ∙ ap (λ (n : ℕ). record { place = At n; registry = r }) (add_suc i k ∙ sym (suc_add i k))
+shift_at zero k r = ap (λ (n : ℕ). record { place = At n; registry = r }) (sym (zero-add k))
+shift_at (suc i) k r = shift_at i (suc k) r ∙ ap (λ (n : ℕ). record { place = At n; registry = r }) (add-suc i k ∙ sym (suc-add i k))
 
 -- the choice of the place p of the queue q
 abbrev pub choice_at : List ℕ → Found → Registry → Choice
@@ -98,19 +98,19 @@ module _ (time : ℕ) (m : List (Row Thread)) where
       opened : walk q r₀ ≡ shift i (cond (eligible time m x r) (record { place = At zero; registry = tested x r }) (later (walk (drop (suc i) q) (tested x r))))
       unfolding walk
       opened =
-          let d : drop i q ≡ x ∷ drop (suc i) q = rw e (drop_cons q i 0 h) in
+          let d : drop i q ≡ x ∷ drop (suc i) q = rw e (drop-cons q i 0 h) in
           w.rest ∙ ap (λ (l : List ℕ). shift i (walk l r)) d
 
       pub walking_on : eligible time m x r ≡ false → Walking q r₀ (tested x r) (i + 1)
       unfolding shift
-      walking_on f = record { rest = rw add_one (rw f at opened); within = omega arith }
+      walking_on f = record { rest = rw add-one (rw f at opened); within = omega arith }
 
       pub walking_found : eligible time m x r ≡ true → walk q r₀ ≡ record { place = At i; registry = tested x r }
-      walking_found f = (rw f at opened) ∙ shift_at i zero (tested x r) ∙ ap (λ (n : ℕ). record { place = At n; registry = tested x r }) (add_zero i)
+      walking_found f = (rw f at opened) ∙ shift_at i zero (tested x r) ∙ ap (λ (n : ℕ). record { place = At n; registry = tested x r }) (add-zero i)
 
     pub walking_ends : length q ≤ i → walk q r₀ ≡ record { place = Nothing; registry = r }
     unfolding walk
     walking_ends h =
         let e : i ≡ length q = omega (arith, w.within) in
-        let d : drop i q ≡ [] = rw e (drop_length q) in
+        let d : drop i q ≡ [] = rw e (drop-length q) in
         w.rest ∙ ap (λ (l : List ℕ). shift i (walk l r)) d ∙ shift_nothing i r

@@ -67,4 +67,4 @@ one_renews_not c b = only_12_renews c 1 b refl
 -- a call that is refused with another number leaves the board as it was
 pub stays_unless_12 : (c : Call) (b : Board) → eqb (run c b).number 0 ≡ false → eqb (run c b).number 12 ≡ false → (run c b).after ≡ b
 stays_unless_12 c b not_0 not_12 =
-    (leaves c b).left (eqb_false (run c b).number 0 not_0) ∙ ap (λ (o : Option (ℕ × ℕ)). with_renewal o b) (only_12_renews c (run c b).number b not_12)
+    (leaves c b).left (eqb-false (run c b).number 0 not_0) ∙ ap (λ (o : Option (ℕ × ℕ)). with_renewal o b) (only_12_renews c (run c b).number b not_12)

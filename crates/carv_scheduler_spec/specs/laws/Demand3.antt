@@ -30,9 +30,9 @@ use Rattle.carv_scheduler_spec.specs.laws.History.{Stands, after_stands, opening
 
 not_due : (t : ℕ) (b : Budget) → objects.due t (objects.renew t b) ≡ false
 not_due t b = test (objects.due t b)
-    (λ d. let h : (t - b.start) % period < period = mod_lt (t - b.start) (omega arith) in
+    (λ d. let h : (t - b.start) % period < period = mod-lt (t - b.start) (omega arith) in
     let start : ℕ = t - (t - b.start) % period in
-    rw d (not_second (leb start t) (leb period (t - start)) (lt_leb period (t - start) (omega arith))))
+    rw d (not_second (leb start t) (leb period (t - start)) (lt-leb period (t - start) (omega arith))))
     (λ d. rw d d)
 
 renew_twice : (t : ℕ) (b : Budget) → cpu_left (objects.renew t (objects.renew t b)) ≡ cpu_left (objects.renew t b)
@@ -48,18 +48,18 @@ module _ (o : objects.Book) (e : ℕ) (f : Budget → Budget) (h : is_live o e �
 
   live_after : (c : ℕ) → is_live (on_budget e f o) c ≡ is_live o c
   live_after c = test (eqb e c)
-      (λ a. rw (← eqb_true e c a) (ap objects.is_some (Table.at_alter o.budgets e f (budget_of o e) there) ∙ sym h))
-      (λ a. ap objects.is_some (Table.at_alter_other o.budgets e c f (eqb_false e c a)))
+      (λ a. rw (← eqb-true e c a) (ap objects.is_some (Table.at_alter o.budgets e f (budget_of o e) there) ∙ sym h))
+      (λ a. ap objects.is_some (Table.at_alter_other o.budgets e c f (eqb-false e c a)))
 
   budget_after : (c : ℕ) → budget_of (on_budget e f o) c ≡ cond (eqb e c) (f (budget_of o e)) (budget_of o c)
   budget_after c = test (eqb e c)
-      (λ a. rw (← eqb_true e c a, eq_eqb e e refl) (ap objects.or_no_budget (Table.at_alter o.budgets e f (budget_of o e) there)))
-      (λ a. rw a (ap objects.or_no_budget (Table.at_alter_other o.budgets e c f (eqb_false e c a))))
+      (λ a. rw (← eqb-true e c a, eq-eqb e e refl) (ap objects.or_no_budget (Table.at_alter o.budgets e f (budget_of o e) there)))
+      (λ a. rw a (ap objects.or_no_budget (Table.at_alter_other o.budgets e c f (eqb-false e c a))))
 
 -- the test of a thread with a budget, said of that budget alone
 pub time_direct : (t c : ℕ) (o : objects.Book) → book.has_time (some c) (book.renew_for t (some c) o) ≡ (is_live o c && ltb 0 (cpu_left (objects.renew t (budget_of o c))))
 time_direct t c o = test (is_live o c)
-    (λ a. rw (a, live_after o c (objects.renew t) a c, a, budget_after o c (objects.renew t) a c, eq_eqb c c refl))
+    (λ a. rw (a, live_after o c (objects.renew t) a c, a, budget_after o c (objects.renew t) a c, eq-eqb c c refl))
     (λ a. rw (a, a))
 
 renewed_alike : (t : ℕ) (w : Option ℕ) (c : ℕ) (o : objects.Book)
@@ -69,7 +69,7 @@ renewed_alike t (some e) c o = test (is_live o e)
     (λ a. rw a (
       live_after o e (objects.renew t) a c,
       rw (budget_after o e (objects.renew t) a c) (test (eqb e c)
-          (λ q. rw (q, ← eqb_true e c q) (renew_twice t (budget_of o e)))
+          (λ q. rw (q, ← eqb-true e c q) (renew_twice t (budget_of o e)))
           (λ q. rw q)),
     ))
     (λ a. rw a (refl, refl))
@@ -112,7 +112,7 @@ module _ (p : ℕ → Bool) where
         behind = L.behind;
         place = ap (λ (l : List ℕ). i ∷ l) L.place;
         has_time = L.has_time;
-        passed_over = λ j m. test (eqb i j) (λ e. rw (← eqb_true i j e) a) (λ e. L.passed_over j (rw e at m));
+        passed_over = λ j m. test (eqb i j) (λ e. rw (← eqb-true i j e) a) (λ e. L.passed_over j (rw e at m));
       }))
 
   -- idle is never queued, so it is the first only where none has time left
@@ -121,12 +121,12 @@ module _ (p : ℕ → Bool) where
   first_none (i ∷ q) out h j m =
       let (i_out, q_out) = neither (eqb i idle) (member idle q) out in
       test (p i)
-      (λ a. absurd (eqb_false i idle i_out (rw a at h)))
-      (λ a. test (eqb i j) (λ e. rw (← eqb_true i j e) a) (λ e. first_none q q_out (rw a at h) j (rw e at m)))
+      (λ a. absurd (eqb-false i idle i_out (rw a at h)))
+      (λ a. test (eqb i j) (λ e. rw (← eqb-true i j e) a) (λ e. first_none q q_out (rw a at h) j (rw e at m)))
 
   none_first : (q : List ℕ) → NoneLeft p q → first_with p q ≡ idle
   none_first [] h = refl
-  none_first (i ∷ q) h = rw (h i (rw (eq_eqb i i refl))) (none_first q (λ j m. h j (or_true (eqb i j) m)))
+  none_first (i ∷ q) h = rw (h i (rw (eq-eqb i i refl))) (none_first q (λ j m. h j (or_true (eqb i j) m)))
 
 -- One planning.
 
@@ -136,10 +136,10 @@ module _ (old next : ℕ) (root : Option ℕ) where
   answer = cond (eqb next old) no_switch (switch old next root)
 
   answer_stays : next ≡ old → some answer ≡ some no_switch
-  answer_stays q = rw (eq_eqb next old q)
+  answer_stays q = rw (eq-eqb next old q)
 
   answer_stayed : some answer ≡ some no_switch → next ≡ old
-  answer_stayed h = test (eqb next old) (λ a. eqb_true next old a)
+  answer_stayed h = test (eqb next old) (λ a. eqb-true next old a)
       (λ a. let q : some (switch old next root) ≡ some no_switch = rw a at h in absurd (let z : ◌≡◌ {A = ℕ} 0 1 = cc in omega arith))
 
   answer_switches : (next ≡ old → ⊥) → some answer ≡ some (switch old next root)
@@ -177,7 +177,7 @@ module _ (n : ℕ) (b : Board) (k : Book) (s : Sound b) (F : FollowsBoard b k) w
   root_alike : root_of (thread back.threads choice.next) ≡ root_of (thread (scheduler.switch_to choice back).threads choice.next)
   root_alike =
       let w = switched back choice back_sound (choose_there back back_sound time back.registry) in
-      rw (w.after choice.next, eq_eqb choice.next choice.next refl)
+      rw (w.after choice.next, eq-eqb choice.next choice.next refl)
 
   accepted_planned : Planned n k accepted
   accepted_planned = record {

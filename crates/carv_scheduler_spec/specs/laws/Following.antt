@@ -70,27 +70,27 @@ module _ (m : List (Row book.Thread)) (i : ℕ) where
 
     book_alter : (j : ℕ) → book.thread (alter i f m) j ≡ cond (eqb i j) (f (book.thread m i)) (book.thread m j)
     book_alter j = test (eqb i j)
-        (λ a. rw (← eqb_true i j a, eq_eqb i i refl) (ap book.or_none (Table.at_alter m i f (book.thread m i) noted)))
-        (λ a. rw a (ap book.or_none (Table.at_alter_other m i j f (eqb_false i j a))))
+        (λ a. rw (← eqb-true i j a, eq-eqb i i refl) (ap book.or_none (Table.at_alter m i f (book.thread m i) noted)))
+        (λ a. rw a (ap book.or_none (Table.at_alter_other m i j f (eqb-false i j a))))
 
     book_has : (j : ℕ) → objects.is_some (at (alter i f m) j) ≡ objects.is_some (at m j)
     book_has j = test (eqb i j)
-        (λ a. rw (← eqb_true i j a) (ap objects.is_some (Table.at_alter m i f (book.thread m i) noted) ∙ sym h))
-        (λ a. ap objects.is_some (Table.at_alter_other m i j f (eqb_false i j a)))
+        (λ a. rw (← eqb-true i j a) (ap objects.is_some (Table.at_alter m i f (book.thread m i) noted) ∙ sym h))
+        (λ a. ap objects.is_some (Table.at_alter_other m i j f (eqb-false i j a)))
 
   book_put : (t : book.Thread) (j : ℕ) → book.thread (put i t m) j ≡ cond (eqb i j) t (book.thread m j)
   book_put t j = test (eqb i j)
-      (λ a. rw (← eqb_true i j a, eq_eqb i i refl) (ap book.or_none (Table.at_put m i t)))
-      (λ a. rw a (ap book.or_none (Table.at_put_other m i j t (eqb_false i j a))))
+      (λ a. rw (← eqb-true i j a, eq-eqb i i refl) (ap book.or_none (Table.at_put m i t)))
+      (λ a. rw a (ap book.or_none (Table.at_put_other m i j t (eqb-false i j a))))
 
   book_has_put : (t : book.Thread) (j : ℕ) → objects.is_some (at (put i t m) j) ≡ (eqb i j || objects.is_some (at m j))
   book_has_put t j = test (eqb i j)
-      (λ a. rw (← eqb_true i j a, eq_eqb i i refl) (ap objects.is_some (Table.at_put m i t)))
-      (λ a. rw a (ap objects.is_some (Table.at_put_other m i j t (eqb_false i j a))))
+      (λ a. rw (← eqb-true i j a, eq-eqb i i refl) (ap objects.is_some (Table.at_put m i t)))
+      (λ a. rw a (ap objects.is_some (Table.at_put_other m i j t (eqb-false i j a))))
 
 -- a thread in a state other than Blocked waits for nothing
 no_wait_in : (s : ℕ) (t : Thread) → is s t ≡ true → eqb s blocked ≡ false → wait_of t ≡ none
-no_wait_in s t h n = rw (eqb_true t.state s h, n)
+no_wait_in s t h n = rw (eqb-true t.state s h, n)
 
 -- The budgets of threads.
 
@@ -133,7 +133,7 @@ known_waiting : (t : Thread) (m : List (Row book.Thread)) (i j : ℕ) (w : Optio
 known_waiting t m i j w h K = record {
   there = book_has m i (book.waiting w) h j ∙ K.there;
   budget = K.budget ∙ sym (ap (λ (x : book.Thread). x.budget) (book_alter m i (book.waiting w) h j)
-      ∙ test (eqb i j) (λ a. rw (a, eqb_true i j a)) (λ a. rw a));
+      ∙ test (eqb i j) (λ a. rw (a, eqb-true i j a)) (λ a. rw a));
 }
 
 -- thread i goes by f, which leaves its budget
@@ -145,13 +145,13 @@ module _ (b : Board) (k : Book) (F : FollowsBoard b k) (i : ℕ) (f : Thread →
   runs_same : is running (f (thread b.threads i)) ≡ is running (thread b.threads i)
       → is running (thread (alter i f b.threads) b.current) ≡ k.runs
   runs_same q = rw (thread_alter b.threads i f h b.current) (test (eqb i b.current)
-      (λ a. rw (a, q, eqb_true i b.current a) F.runs)
+      (λ a. rw (a, q, eqb-true i b.current a) F.runs)
       (λ a. rw a F.runs))
 
   waits_same : wait_of (f (thread b.threads i)) ≡ wait_of (thread b.threads i)
       → (j : ℕ) → wait_of (thread (alter i f b.threads) j) ≡ (book.thread k.threads j).wait
   waits_same q j = rw (thread_alter b.threads i f h j) (test (eqb i j)
-      (λ a. rw (a, ← eqb_true i j a) (q ∙ F.waits i))
+      (λ a. rw (a, ← eqb-true i j a) (q ∙ F.waits i))
       (λ a. rw a (F.waits j)))
 
   waits_alter : (w : Option Wait) → wait_of (f (thread b.threads i)) ≡ w
@@ -166,7 +166,7 @@ module _ (b : Board) (k : Book) (F : FollowsBoard b k) (i : ℕ) (f : Thread →
       record {
         there = K.there;
         budget = ap (λ (t : Thread). budget_named t.budget) (thread_alter b.threads i f h j)
-            ∙ test (eqb i j) (λ a. rw (a, eqb_true i j a, paid (thread b.threads j)) K.budget) (λ a. rw a K.budget);
+            ∙ test (eqb i j) (λ a. rw (a, eqb-true i j a, paid (thread b.threads j)) K.budget) (λ a. rw a K.budget);
       }
 
   known_alter : (w : Option Wait) (j : ℕ) → has (alter i f b.threads) j ≡ true
@@ -256,14 +256,14 @@ module _ (b : Board) (k : Book) (s : Sound b) (F : FollowsBoard b k) where
       asked P (not (eqb i idle)) F λ not_idle.
       asked P (ltb (length b.threads) most_threads) F λ room.
       asked P stack F λ backing.
-      created i budget fits (not_true (has b.threads i) missing)
+      created i budget fits (not-true (has b.threads i) missing)
 
   pub start_follows : (i space cspace root : ℕ) (context : Context) → Written (start i space cspace root context) k (run (start i space cspace root context) b)
   start_follows i space cspace root context =
       let P = Written (start i space cspace root context) k in
       asked P (has b.threads i) F λ h.
       asked P (is inactive (thread b.threads i)) F λ state.
-      let q = eqb_true (thread b.threads i).state inactive state in
+      let q = eqb-true (thread b.threads i).state inactive state in
       start_joins b k F i (started (scheduler.in_spaces space cspace root) context) h (λ t. refl) (rw q) (rw q)
 
   pub wake_follows : (i : ℕ) (r : Results) → Written (wake i r) k (run (wake i r) b)
@@ -271,7 +271,7 @@ module _ (b : Board) (k : Book) (s : Sound b) (F : FollowsBoard b k) where
       let P = Written (wake i r) k in
       asked P (has b.threads i) F λ h.
       asked P (is blocked (thread b.threads i)) F λ state.
-      wake_joins b k F i (woken r) h (λ t. refl) (rw (eqb_true (thread b.threads i).state blocked state)) refl
+      wake_joins b k F i (woken r) h (λ t. refl) (rw (eqb-true (thread b.threads i).state blocked state)) refl
 
   pub block_follows : (kind number : ℕ) → Written (block_current kind number) k (run (block_current kind number) b)
   block_follows kind number =
@@ -285,7 +285,7 @@ module _ (b : Board) (k : Book) (s : Sound b) (F : FollowsBoard b k) where
         objects = F.objects;
         current = refl;
         queue = F.queue;
-        runs = rw (thread_alter b.threads b.current f h b.current, eq_eqb b.current b.current refl);
+        runs = rw (thread_alter b.threads b.current f h b.current, eq-eqb b.current b.current refl);
         rising = Table.rising_alter k.threads 0 (2 ^ 64) b.current (book.waiting (some (wait kind number))) F.rising;
         waits = waits_alter b k F b.current f h (λ t. refl) (some (wait kind number)) refl;
         budgets = known_alter b k F b.current f h (λ t. refl) (some (wait kind number));
@@ -332,7 +332,7 @@ module _ {A : Type 0} (p : A → Bool) where
   pick_passes [] l n i u h = absurd (false≢true h)
   pick_passes (r ∷ m) l n i u h = test (eqb r.id i)
       (λ e. rw e (test (p r.it) (λ a. a)
-      (λ a. absurd (false≢true (sym (pick_below p m (suc r.id) n i u.1 (omega (arith, eqb_true r.id i e))) ∙ rw a at h)))))
+      (λ a. absurd (false≢true (sym (pick_below p m (suc r.id) n i u.1 (omega (arith, eqb-true r.id i e))) ∙ rw a at h)))))
       (λ e. rw e (pick_passes m (suc r.id) n i u.1 (test (p r.it)
       (λ a. rw (a, e) at h) (λ a. rw a at h))))
 
@@ -364,12 +364,12 @@ wake_all_follows : (l : List ℕ) (b : Board) (k : Book) → FollowsBoard b k �
 wake_all_follows [] b k F d w = F
 wake_all_follows (i ∷ l) b k F d w =
     let f = woken (results 0 0 0) in
-    let state = w i (rw (eq_eqb i i refl)) in
+    let state = w i (rw (eq-eqb i i refl)) in
     let h = active_here b.threads i blocked state refl in
     let b' : Board = with_threads (alter i f b.threads) (join b.queue i) b in
     let e : (scheduler.wake i (results 0 0 0) b).after ≡ b' = rw (h, state) in
     rw e (wake_all_follows l b' (book.woken i k)
-    (wake_joins b k F i f h (λ t. refl) (rw (eqb_true (thread b.threads i).state blocked state)) refl)
+    (wake_joins b k F i f h (λ t. refl) (rw (eqb-true (thread b.threads i).state blocked state)) refl)
     (distinct_rest i l d)
     (λ j m. let off : eqb i j ≡ false = ne_eqb i j (λ q. true≢false (sym m ∙ rw q at (distinct_first i l d))) in
     rw (thread_alter b.threads i f h j, off) (w j (or_true (eqb i j) m))))
@@ -403,7 +403,7 @@ module _ (b : Board) (k : Book) (s : Sound b) (F : FollowsBoard b k) where
       λ j m.
       let due = sym (due_read n (at b.threads j)) ∙ pick_passes (is_due n) b.threads 0 (2 ^ 64) j s.rising m in
       rw (thread_alter b.threads b.current ticked h j) (test (eqb b.current j)
-      (λ a. rw (a, eqb_true b.current j a) (due_blocked n (thread b.threads j) due))
+      (λ a. rw (a, eqb-true b.current j a) (due_blocked n (thread b.threads j) due))
       (λ a. rw a (due_blocked n (thread b.threads j) due))))
 
 -- A planning: the current thread put back, the search of the queue, and the switch.
@@ -427,7 +427,7 @@ choose_follows : (b : Board) (k : Book) → FollowsBoard b k → (time : ℕ) (q
     → SameChoice (scheduler.choose time b.threads q r) (book.choose time k.threads q o)
 choose_follows b k F time [] r o live s G = record { next = refl; rest = refl; objects = G }
 choose_follows b k F time (i ∷ q) r o live s G =
-    let h = live i (rw (eq_eqb i i refl)) in
+    let h = live i (rw (eq-eqb i i refl)) in
     let p = (thread b.threads i).budget in
     let r' = scheduler.renew_for time p r in
     let o' = book.renew_for time (budget_named p) o in
@@ -457,7 +457,7 @@ module _ (b : Board) (k : Book) (s : Sound b) (F : FollowsBoard b k) where
         objects = F.objects;
         current = refl;
         queue = ap (λ (q : List ℕ). join q b.current) F.queue;
-        runs = rw (thread_alter b.threads b.current f h b.current, eq_eqb b.current b.current refl);
+        runs = rw (thread_alter b.threads b.current f h b.current, eq-eqb b.current b.current refl);
         rising = F.rising;
         waits = waits_same b k F b.current f h (λ t. refl) (sym (no_wait_in running (thread b.threads b.current) state refl));
         budgets = known b k F b.current f h (λ t. refl);

@@ -35,14 +35,14 @@ create_user_thread_kept i budget stack b low o =
     asked Keeps stack o λ backing.
     let m = b.threads in
     let t = fresh inactive (budget_id budget) in
-    let missing = not_true (has m i) h in
-    let busy = not_true (eqb i idle) k in
+    let missing = not-true (has m i) h in
+    let busy = not-true (eqb i idle) k in
     let state = put_state m i (budget_id budget) missing in
     let now = thread_put m i t in
     let here = has_put m i t in
     record {
       registry = o.registry;
-      few = omega (arith, Table.length_put m i t, ltb_true (length m) most_threads room);
+      few = omega (arith, Table.length_put m i t, ltb-true (length m) most_threads room);
       rising = Table.rising_put m 0 (2 ^ 64) i t (omega arith) low o.rising;
       codes = codes_by (put i t m) (λ j. rw (now j) (test (eqb i j)
           (λ a. rw a (fresh_sound inactive (budget_id budget) (omega arith) (omega arith) refl (λ q. refl) (λ q. absurd (omega arith))))
@@ -57,7 +57,7 @@ create_user_thread_kept i budget stack b low o =
       idle_state = rw (state idle) o.idle_state;
       idle_runs = λ q. rw (state idle) (o.idle_runs q);
       budgets = λ j d. rw (now j) (test (eqb i j)
-          (λ a. rw (a, ← eqb_true i j a, not_true (eqb i 0) n, busy))
+          (λ a. rw (a, ← eqb-true i j a, not-true (eqb i 0) n, busy))
           (λ a. rw a (o.budgets j (rw (here j, a) at d))));
       few_exits = o.few_exits;
       causes = o.causes;
@@ -88,7 +88,7 @@ block_current_kept kind number b o =
     asked Keeps (wait_listed kind) o λ c.
     asked Keeps (is running t) o λ s.
     asked Keeps (not (eqb b.current idle)) o λ n.
-    let p = stop_kept b blocked (wait kind number) b.exits o (not_true (eqb b.current idle) n)
+    let p = stop_kept b blocked (wait kind number) b.exits o (not-true (eqb b.current idle) n)
     (become_sound blocked (wait kind number) t (codes_of b o b.current) (omega arith) (omega arith) (λ a. c) (λ a. absurd (true≢false a)))
     refl refl o.few_exits o.causes in
     let out = o.queued b.current ∙ rw (other_state running ready t s refl) (and_false (not (eqb b.current idle))) in
@@ -99,9 +99,9 @@ kill_kept i cause b o =
     asked Keeps (cause_listed cause) o λ c.
     asked Keeps (not (eqb i idle)) o λ n.
     asked Keeps (has b.threads i) o λ h.
-    let busy = not_true (eqb i idle) n in
+    let busy = not-true (eqb i idle) n in
     test (eqb i b.current)
-    (λ a. rw a (let q = eqb_true i b.current a in
+    (λ a. rw a (let q = eqb-true i b.current a in
     let e : Exit = record { thread = b.current; cause = cause } in
     rw q (stop_kept b dead no_wait (logged e b.exits) o (rw q at busy)
     (no_wait_sound dead (thread b.threads b.current) (codes_of b o b.current) (omega arith) (omega arith) refl) refl refl
@@ -141,8 +141,8 @@ on_registry_kept a b s o = registry_kept a.after b s o
 
 -- thread 0, idle, or another
 pub three : (P : ℕ → Type 0) → P 0 → P idle → ((i : ℕ) → eqb 0 i ≡ false → eqb idle i ≡ false → P i) → (i : ℕ) → P i
-three P z w other i = test (eqb 0 i) (λ a. subst P (eqb_true 0 i a) z)
-    (λ a. test (eqb idle i) (λ c. subst P (eqb_true idle i c) w) (λ c. other i a c))
+three P z w other i = test (eqb 0 i) (λ a. subst P (eqb-true 0 i a) z)
+    (λ a. test (eqb idle i) (λ c. subst P (eqb-true idle i c) w) (λ c. other i a c))
 
 pub opening_sound : (cpu memory : ℕ) → cpu ≤ period → Sound (opening cpu memory)
 opening_sound cpu memory h =

@@ -208,9 +208,9 @@ pub limits_hold : Limits
 unfolding due renew
 limits_hold = record {
   waits = (refl, refl);
-  waits_above = λ k h. rw (le_leb 1 k (omega arith), lt_leb k 5 h);
+  waits_above = λ k h. rw (le-leb 1 k (omega arith), lt-leb k 5 h);
   causes = refl;
-  causes_above = λ c h. rw (le_leb 1 c (omega arith), lt_leb c 2 h);
+  causes_above = λ c h. rw (le-leb 1 c (omega arith), lt-leb c 2 h);
   idle_is = refl;
   idle_there = refl;
   idle_runs = refl;

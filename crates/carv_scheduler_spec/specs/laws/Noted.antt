@@ -39,7 +39,7 @@ tick_noted time (some j) k l i = test (is_live k j) (λ a. rw a charged) (λ a. 
         let z = altered_row k.budgets j i f x y h g in
         test (eqb j i)
         (λ a. let z' : f x ≡ y = rw a at z in
-        let here : budget_of k j ≡ x = ap (budget_of k) (eqb_true j i a) ∙ ap objects.or_no_budget h in
+        let here : budget_of k j ≡ x = ap (budget_of k) (eqb-true j i a) ∙ ap objects.or_no_budget h in
         rw (a, here, ← z') (booked x (renew time x) (f x) 0 (min tick_ns (cpu_left (renew time x))) (charged_to l.charges i) _ refl (renews time x) refl (omega arith) (omega arith)))
         (λ a. let z' : x ≡ y = rw a at z in
         rw (a, ← z') (booked x x x 0 0 (charged_to l.charges i) _ refl (renews_not x) refl (omega arith) (omega arith)))
@@ -53,8 +53,8 @@ renew_for_renews time (some j) k i x h = test (is_live k j)
     (λ a. rw a (x, h, renews_not x))
   where
     cond_at : (b : Bool) → eqb j i ≡ b → (y : Budget) × (at (alter j (renew time) k.budgets) i ≡ some y) × Renews x y
-    cond_at true q = (renew time x, rw (eqb_true j i q) (Table.at_alter k.budgets i (renew time) x h), renews time x)
-    cond_at false q = (x, Table.at_alter_other k.budgets j i (renew time) (eqb_false j i q) ∙ h, renews_not x)
+    cond_at true q = (renew time x, rw (eqb-true j i q) (Table.at_alter k.budgets i (renew time) x h), renews time x)
+    cond_at false q = (x, Table.at_alter_other k.budgets j i (renew time) (eqb-false j i q) ∙ h, renews_not x)
 
 choose_renews : (time : ℕ) (m : List (Row book.Thread)) (q : List ℕ) (k : objects.Book) (i : ℕ) (x : Budget) → at k.budgets i ≡ some x
     → (y : Budget) × (at (book.choose time m q k).objects.budgets i ≡ some y) × Renews x y

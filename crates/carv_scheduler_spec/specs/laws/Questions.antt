@@ -16,22 +16,22 @@ module _ (i budget : ℕ) (stack : Bool) (b : Board) where
 
   module _ (h : has b.threads i ≡ false) where
     pub create_first : i ≡ 0 → create_user_thread i budget stack b ≡ refuse 5 b
-    create_first z = rw (h, eq_eqb i 0 z)
+    create_first z = rw (h, eq-eqb i 0 z)
 
     module _ (z : i ≡ 0 → ⊥) where
       pub create_idle : i ≡ idle → create_user_thread i budget stack b ≡ refuse 5 b
-      create_idle w = rw (h, ne_eqb i 0 z, eq_eqb i idle w)
+      create_idle w = rw (h, ne_eqb i 0 z, eq-eqb i idle w)
 
       module _ (w : i ≡ idle → ⊥) where
         pub create_full : 128 ≤ length b.threads → create_user_thread i budget stack b ≡ refuse 6 b
-        create_full f = rw (h, ne_eqb i 0 z, ne_eqb i idle w, le_ltb (length b.threads) 128 f)
+        create_full f = rw (h, ne_eqb i 0 z, ne_eqb i idle w, le-ltb (length b.threads) 128 f)
 
         module _ (f : length b.threads < 128) where
           pub create_stack : stack ≡ false → create_user_thread i budget stack b ≡ refuse 14 b
-          create_stack s = rw (h, ne_eqb i 0 z, ne_eqb i idle w, lt_ltb (length b.threads) 128 f, s)
+          create_stack s = rw (h, ne_eqb i 0 z, ne_eqb i idle w, lt-ltb (length b.threads) 128 f, s)
 
           pub create_done : stack ≡ true → create_user_thread i budget stack b ≡ accept none (with_threads (put i (fresh inactive (budget_id budget)) b.threads) b.queue b)
-          create_done s = rw (h, ne_eqb i 0 z, ne_eqb i idle w, lt_ltb (length b.threads) 128 f, s)
+          create_done s = rw (h, ne_eqb i 0 z, ne_eqb i idle w, lt-ltb (length b.threads) 128 f, s)
 
 module _ (i space cspace root : ℕ) (context : Context) (b : Board) where
   pub start_missing : has b.threads i ≡ false → start i space cspace root context b ≡ refuse 7 b
@@ -66,7 +66,7 @@ module _ (kind number : ℕ) (b : Board) where
 
     module _ (s : is running (thread b.threads b.current) ≡ true) where
       pub block_idle : b.current ≡ idle → block_current kind number b ≡ refuse 8 b
-      block_idle w = rw (l, s, eq_eqb b.current idle w)
+      block_idle w = rw (l, s, eq-eqb b.current idle w)
 
       pub block_done : (b.current ≡ idle → ⊥)
           → block_current kind number b ≡ accept none (with_threads (alter b.current (become blocked (wait kind number)) b.threads) b.queue b)
@@ -105,23 +105,23 @@ module _ (b : Board) where
 -- `tick` and `plan`.
 module _ (n : ℕ) (b : Board) where
   pub tick_late : 18_446_744_073_709 < n → tick n b ≡ refuse 3 b
-  tick_late h = rw (lt_leb n 18_446_744_073_709 h)
+  tick_late h = rw (lt-leb n 18_446_744_073_709 h)
 
   pub tick_done : n ≤ 18_446_744_073_709 → tick n b ≡ accept none (
       wake_all (pick (is_due n) b.threads)
       (with_registry (charge_tick (n * 1_000_000) (thread b.threads b.current).budget b.registry)
       (with_threads (alter b.current ticked b.threads) b.queue b)))
-  tick_done h = rw (le_leb n 18_446_744_073_709 h)
+  tick_done h = rw (le-leb n 18_446_744_073_709 h)
 
   pub plan_late : 18_446_744_073_709 < n → plan n b ≡ refuse 3 b
-  plan_late h = rw (lt_leb n 18_446_744_073_709 h)
+  plan_late h = rw (lt-leb n 18_446_744_073_709 h)
 
   -- the planning's choice among the queue that the current thread is put back into
   abbrev pub planned : Choice
   planned = choose (n * 1_000_000) (put_back b).threads (put_back b).queue (put_back b).registry
 
   pub plan_done : n ≤ 18_446_744_073_709 → plan n b ≡ accept (some (switch_value b.current planned (put_back b))) (switch_to planned (put_back b))
-  plan_done h = rw (le_leb n 18_446_744_073_709 h)
+  plan_done h = rw (le-leb n 18_446_744_073_709 h)
 
 -- the threads after the end of thread i
 abbrev pub killed : ℕ → Board → List (Row Thread)
@@ -133,7 +133,7 @@ module _ (x cause : ℕ) (b : Board) where
   kill_unlisted c = rw c
 
   pub kill_idle : cause_listed cause ≡ true → x ≡ idle → kill x cause b ≡ refuse 5 b
-  kill_idle c n = rw (c, eq_eqb x idle n)
+  kill_idle c n = rw (c, eq-eqb x idle n)
 
   module _ (c : cause_listed cause ≡ true) (n : x ≡ idle → ⊥) where
     pub kill_missing : has b.threads x ≡ false → kill x cause b ≡ refuse 7 b

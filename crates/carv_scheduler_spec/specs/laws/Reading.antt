@@ -30,7 +30,7 @@ neither true c h = absurd (true≢false h)
 neither false c h = (refl, h)
 
 pub eqb_turned : (i j : ℕ) → eqb i j ≡ false → eqb j i ≡ false
-eqb_turned i j h = ne_eqb j i (λ q. eqb_false i j h (sym q))
+eqb_turned i j h = ne_eqb j i (λ q. eqb-false i j h (sym q))
 
 -- Threads.
 
@@ -54,40 +54,40 @@ module _ (m : List (Row Thread)) where
   module _ (i : ℕ) (f : Thread → Thread) (h : has m i ≡ true) where
     pub thread_alter : (j : ℕ) → thread (alter i f m) j ≡ cond (eqb i j) (f (thread m i)) (thread m j)
     thread_alter j = test (eqb i j)
-        (λ a. rw (← eqb_true i j a, eq_eqb i i refl) (ap or_fresh (Table.at_alter m i f (thread m i) (there i h))))
-        (λ a. rw a (ap or_fresh (Table.at_alter_other m i j f (eqb_false i j a))))
+        (λ a. rw (← eqb-true i j a, eq-eqb i i refl) (ap or_fresh (Table.at_alter m i f (thread m i) (there i h))))
+        (λ a. rw a (ap or_fresh (Table.at_alter_other m i j f (eqb-false i j a))))
 
     pub has_alter : (j : ℕ) → has (alter i f m) j ≡ has m j
     has_alter j = test (eqb i j)
-        (λ a. rw (← eqb_true i j a) (ap found (Table.at_alter m i f (thread m i) (there i h)) ∙ sym h))
-        (λ a. ap found (Table.at_alter_other m i j f (eqb_false i j a)))
+        (λ a. rw (← eqb-true i j a) (ap found (Table.at_alter m i f (thread m i) (there i h)) ∙ sym h))
+        (λ a. ap found (Table.at_alter_other m i j f (eqb-false i j a)))
 
     pub budget_alter : (f (thread m i)).budget ≡ (thread m i).budget → (j : ℕ) → (thread (alter i f m) j).budget ≡ (thread m j).budget
-    budget_alter k j = rw (thread_alter j) (test (eqb i j) (λ a. rw (a, k, eqb_true i j a)) (λ a. rw a))
+    budget_alter k j = rw (thread_alter j) (test (eqb i j) (λ a. rw (a, k, eqb-true i j a)) (λ a. rw a))
 
   -- after thread i is gone
   module _ (i l n : ℕ) (u : Rising l n m) where
     pub thread_erase : (j : ℕ) → thread (erase i m) j ≡ cond (eqb i j) (fresh inactive no_budget_id) (thread m j)
     thread_erase j = test (eqb i j)
-        (λ a. rw (← eqb_true i j a, eq_eqb i i refl) (ap or_fresh (Table.at_erase m l n i u)))
-        (λ a. rw a (ap or_fresh (Table.at_erase_other m i j (eqb_false i j a))))
+        (λ a. rw (← eqb-true i j a, eq-eqb i i refl) (ap or_fresh (Table.at_erase m l n i u)))
+        (λ a. rw a (ap or_fresh (Table.at_erase_other m i j (eqb-false i j a))))
 
     pub has_erase : (j : ℕ) → has (erase i m) j ≡ (not (eqb i j) && has m j)
     has_erase j = test (eqb i j)
-        (λ a. rw (← eqb_true i j a, eq_eqb i i refl) (ap found (Table.at_erase m l n i u)))
-        (λ a. rw a (ap found (Table.at_erase_other m i j (eqb_false i j a))))
+        (λ a. rw (← eqb-true i j a, eq-eqb i i refl) (ap found (Table.at_erase m l n i u)))
+        (λ a. rw a (ap found (Table.at_erase_other m i j (eqb-false i j a))))
 
   -- after t is put under i
   module _ (i : ℕ) (t : Thread) where
     pub thread_put : (j : ℕ) → thread (put i t m) j ≡ cond (eqb i j) t (thread m j)
     thread_put j = test (eqb i j)
-        (λ a. rw (← eqb_true i j a, eq_eqb i i refl) (ap or_fresh (Table.at_put m i t)))
-        (λ a. rw a (ap or_fresh (Table.at_put_other m i j t (eqb_false i j a))))
+        (λ a. rw (← eqb-true i j a, eq-eqb i i refl) (ap or_fresh (Table.at_put m i t)))
+        (λ a. rw a (ap or_fresh (Table.at_put_other m i j t (eqb-false i j a))))
 
     pub has_put : (j : ℕ) → has (put i t m) j ≡ (eqb i j || has m j)
     has_put j = test (eqb i j)
-        (λ a. rw (← eqb_true i j a, eq_eqb i i refl) (ap found (Table.at_put m i t)))
-        (λ a. rw a (ap found (Table.at_put_other m i j t (eqb_false i j a))))
+        (λ a. rw (← eqb-true i j a, eq-eqb i i refl) (ap found (Table.at_put m i t)))
+        (λ a. rw a (ap found (Table.at_put_other m i j t (eqb-false i j a))))
 
 -- The queue.
 
@@ -98,14 +98,14 @@ member_join j (k ∷ q) i = test (eqb k j) (λ a. rw a) (λ a. rw a (member_join
 pub member_without : (j : ℕ) (q : List ℕ) (i : ℕ) → member j (without i q) ≡ (not (eqb i j) && member j q)
 member_without j [] i = sym (and_false (not (eqb i j)))
 member_without j (k ∷ q) i = test (eqb k i)
-    (λ a. let z = eqb_true k i a in rw (a, z) (test (eqb i j) (λ b. rw (member_without j q i, b)) (λ b. rw (b, member_without j q i, b))))
+    (λ a. let z = eqb-true k i a in rw (a, z) (test (eqb i j) (λ b. rw (member_without j q i, b)) (λ b. rw (b, member_without j q i, b))))
     (λ a. rw a (test (eqb k j)
-    (λ b. rw b (rw (ne_eqb i j (λ z. eqb_false k i a (eqb_true k j b ∙ sym z)))))
+    (λ b. rw b (rw (ne_eqb i j (λ z. eqb-false k i a (eqb-true k j b ∙ sym z)))))
     (λ b. rw b (member_without j q i))))
 
 -- a queue's first is not in the rest, and the rest is distinct
 pub distinct_first : (i : ℕ) (q : List ℕ) → distinct (i ∷ q) ≡ true → member i q ≡ false
-distinct_first i q d = not_true (member i q) (first (not (member i q)) (distinct q) d)
+distinct_first i q d = not-true (member i q) (first (not (member i q)) (distinct q) d)
 
 pub distinct_rest : (i : ℕ) (q : List ℕ) → distinct (i ∷ q) ≡ true → distinct q ≡ true
 distinct_rest i q d = second (not (member i q)) (distinct q) d

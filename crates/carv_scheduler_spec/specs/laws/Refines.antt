@@ -67,14 +67,14 @@ module _ {A : Type 0} where
   pub erase_alter : (m : List (Row A)) (i : ℕ) (f : A → A) → erase i (alter i f m) ≡ erase i m
   erase_alter [] i f = refl
   erase_alter (r ∷ m) i f = test (eqb r.id i)
-      (λ e. rw (e, eq_eqb i i refl))
+      (λ e. rw (e, eq-eqb i i refl))
       (λ e. rw (e, e) (ap (◌∷◌ r) (erase_alter m i f)))
 
   -- an alteration that a test doesn't see
   pub pick_alter : (p : A → Bool) (m : List (Row A)) (i : ℕ) (f : A → A) → ((a : A) → p (f a) ≡ p a) → pick p (alter i f m) ≡ pick p m
   pick_alter p [] i f h = refl
   pick_alter p (r ∷ m) i f h = test (eqb r.id i)
-      (λ e. rw (e, h r.it, ← eqb_true r.id i e))
+      (λ e. rw (e, h r.it, ← eqb-true r.id i e))
       (λ e. rw e (ap (λ (l : List ℕ). cond (p r.it) (r.id ∷ l) l) (pick_alter p m i f h)))
 
 -- The threads' calls.
@@ -159,9 +159,9 @@ drained : (a : Account) (now : ℕ) → rust.charge_or_drain a now ≡ account.s
 drained a now =
     let left : ℕ = (account.renew a now).cpu_left in
     rw (charge_cpu_by a tick_ns now) (test (leb tick_ns left)
-    (λ c. rw (c, min_eq_left (leb_true tick_ns left c)))
-    (λ c. let h : left ≤ tick_ns = omega (arith, leb_false tick_ns left c) in
-    rw (c, charge_cpu_by (account.renew a now) left now, renew_twice a now, le_leb left left (omega arith), min_eq_right h)))
+    (λ c. rw (c, min-eq_left (leb-true tick_ns left c)))
+    (λ c. let h : left ≤ tick_ns = omega (arith, leb-false tick_ns left c) in
+    rw (c, charge_cpu_by (account.renew a now) left now, renew_twice a now, le-leb left left (omega arith), min-eq_right h)))
 
 charged_for : (p : BudgetId) (now : ℕ) (r : Registry) → charge_tick now p r ≡ cond (eqb p.is 0) r (rust.tick_found (objects.budget_mut p.id r) p.id now r)
 charged_for p now r = rw (budget_mut_is p.id r) (test (is_budget r p.id)
@@ -260,15 +260,15 @@ to_running = rust.set_state rust.State·Running rust.no_wait
 -- the root of a thread that comes to run
 root_runs : (m : List (Row Thread)) (i : ℕ) → rust.root_found (at (alter i to_running m) i) ≡ root_of (thread m i)
 root_runs [] i = refl
-root_runs (r ∷ m) i = test (eqb r.id i) (λ e. rw (e, eq_eqb i i refl)) (λ e. rw (e, e) (root_runs m i))
+root_runs (r ∷ m) i = test (eqb r.id i) (λ e. rw (e, eq-eqb i i refl)) (λ e. rw (e, e) (root_runs m i))
 
 -- from the chosen thread on
 switched : (next : ℕ) (rest : List ℕ) (r : Registry) (b : Board)
     → accept (some (switch_value b.current (record { next = next; rest = rest; registry = r }) b)) (switch_to (record { next = next; rest = rest; registry = r }) b)
     ≡ plan_reply_of (rust.plan_next b.current next (rust.write_objects r (rust.write_queue rest b)))
 switched next rest r b = test (eqb next b.current)
-    (λ e. rw (e, eqb_true next b.current e))
-    (λ e. rw (e, root_runs b.threads next, at_alter_other b.threads next b.current to_running (eqb_false next b.current e), dead_is (at b.threads b.current))
+    (λ e. rw (e, eqb-true next b.current e))
+    (λ e. rw (e, root_runs b.threads next, at_alter_other b.threads next b.current to_running (eqb-false next b.current e), dead_is (at b.threads b.current))
     (test (is dead (thread b.threads b.current)) (λ d. rw d) (λ d. rw d)))
 
 -- the Rust's planning from the board with its current thread put back
@@ -336,7 +336,7 @@ on_registry_rust a c b q = rw (q, lift_is c.value)
 -- so are the found place, the thread that comes to run and the one that is left.
 
 pub time_fits : (n : ℕ) → tick_fits n ≡ true → n * tick_ns < 2 ^ 64
-time_fits n h = omega (arith, leb_true n 18_446_744_073_709 h)
+time_fits n h = omega (arith, leb-true n 18_446_744_073_709 h)
 
 -- a place of a queue of length n
 abbrev pub Within : Option ℕ → ℕ → Type 0
@@ -358,7 +358,7 @@ placed now (j ∷ q) b r =
 has_alter : (m : List (Row Thread)) (i j : ℕ) (f : Thread → Thread) → has (alter i f m) j ≡ has m j
 has_alter [] i j f = refl
 has_alter (r ∷ m) i j f = test (eqb r.id i)
-    (λ e. rw (e, ← eqb_true r.id i e) (test (eqb r.id j) (λ d. rw d) (λ d. rw d)))
+    (λ e. rw (e, ← eqb-true r.id i e) (test (eqb r.id j) (λ d. rw d) (λ d. rw d)))
     (λ e. rw e (test (eqb r.id j) (λ d. rw d) (λ d. rw d (has_alter m i j f))))
 
 chosen_there : (now : ℕ) (m : List (Row Thread)) (q : List ℕ) (r : Registry) → has m idle ≡ true → has m (choose now m q r).next ≡ true

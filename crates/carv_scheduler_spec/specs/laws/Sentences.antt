@@ -97,11 +97,11 @@ queue_of k = cond (eqb k.current 18_446_744_073_709_551_615) k.queue (cond k.run
 
 renew_left : (time : ℕ) (b : Budget) → objects.cpu_left (objects.renew time b) ≡ left_at time b
 renew_left time b = test (leb (b.start + 10_000_000) time)
-    (λ y. let x = leb_true (b.start + 10_000_000) time y in
-    rw (y, le_leb b.start time (omega arith), le_leb 10_000_000 (time - b.start) (omega arith)) (omega arith))
-    (λ n. let x = leb_false (b.start + 10_000_000) time n in
+    (λ y. let x = leb-true (b.start + 10_000_000) time y in
+    rw (y, le-leb b.start time (omega arith), le-leb 10_000_000 (time - b.start) (omega arith)) (omega arith))
+    (λ n. let x = leb-false (b.start + 10_000_000) time n in
     test (leb b.start time)
-    (λ s. let z = leb_true b.start time s in rw (n, s, lt_leb 10_000_000 (time - b.start) (omega arith)))
+    (λ s. let z = leb-true b.start time s in rw (n, s, lt-leb 10_000_000 (time - b.start) (omega arith)))
     (λ s. rw (n, s)))
 
 id_left_is : (time : ℕ) (o : objects.Book) (p : Option ℕ) → book.has_time p (book.renew_for time p o) ≡ id_left time o.budgets p
@@ -125,13 +125,13 @@ queue_is k = test (eqb k.current 18_446_744_073_709_551_615) (λ a. rw a) (λ a.
 
 -- j stands in this list
 in_parts : (front behind : List ℕ) (j : ℕ) → member j (front ++ (j ∷ behind)) ≡ true
-in_parts [] behind j = rw (eq_eqb j j refl)
+in_parts [] behind j = rw (eq-eqb j j refl)
 in_parts (i ∷ front) behind j = or_true (eqb i j) (in_parts front behind j)
 
 parts_of : (q : List ℕ) (j : ℕ) → member j q ≡ true → (front : List ℕ) × (behind : List ℕ) × (q ≡ front ++ (j ∷ behind))
 parts_of [] j m = absurd (false≢true m)
 parts_of (i ∷ q) j m = test (eqb i j)
-    (λ e. ([], q, ap (λ (x : ℕ). x ∷ q) (eqb_true i j e)))
+    (λ e. ([], q, ap (λ (x : ℕ). x ∷ q) (eqb-true i j e)))
     (λ e. let (front, behind, p) = parts_of q j (rw e at m) in (i ∷ front, behind, ap (λ (l : List ℕ). i ∷ l) p))
 
 -- none of a list has time left at a time, by the book
@@ -176,7 +176,7 @@ module _ (cs rest : List Call) (cpu memory n : ℕ) (h : cpu ≤ 10_000_000) (fi
       go : (o : Option Thread) → at (planning cs cpu memory n).after.threads (new cs cpu memory n) ≡ o
           → (t : Thread) × (at (planning cs cpu memory n).after.threads (new cs cpu memory n) ≡ some t) × (t.state ≡ 3)
       go none q = absurd (false≢true (sym (ap in_state_3 q) ∙ planned.runs))
-      go (some t) q = (t, q, eqb_true t.state 3 (sym (ap in_state_3 q) ∙ planned.runs))
+      go (some t) q = (t, q, eqb-true t.state 3 (sym (ap in_state_3 q) ∙ planned.runs))
 
   -- "each accepted planning runs the thread ready longest among those with time left": it stands in the queue and has time left, and none in front of it has
   pub ready_longest : (new cs cpu memory n ≡ 18_446_744_073_709_551_615 → ⊥)

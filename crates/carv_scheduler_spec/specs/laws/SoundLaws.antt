@@ -28,7 +28,7 @@ implying false b h = refl
 
 same_told : (a b : Bool) → same a b ≡ true → a ≡ b
 same_told true b h = sym h
-same_told false b h = sym (not_true b h)
+same_told false b h = sym (not-true b h)
 
 same_shown : (a b : Bool) → a ≡ b → same a b ≡ true
 same_shown true b h = sym h
@@ -38,59 +38,59 @@ same_shown false b h = rw (← h)
 pub each_told : (p : ℕ → Bool) (q : List ℕ) → each p q ≡ true → (i : ℕ) → member i q ≡ true → p i ≡ true
 each_told p [] h i m = absurd (false≢true m)
 each_told p (j ∷ q) h i m = test (eqb j i)
-    (λ a. rw (← eqb_true j i a) (first (p j) (each p q) h))
+    (λ a. rw (← eqb-true j i a) (first (p j) (each p q) h))
     (λ a. each_told p q (second (p j) (each p q) h) i (rw a at m))
 
 pub each_shown : (p : ℕ → Bool) (q : List ℕ) → ((i : ℕ) → member i q ≡ true → p i ≡ true) → each p q ≡ true
 each_shown p [] h = refl
-each_shown p (j ∷ q) h = rw (h j (rw (eq_eqb j j refl)), each_shown p q (λ i m. h i (or_true (eqb j i) m)))
+each_shown p (j ∷ q) h = rw (h j (rw (eq-eqb j j refl)), each_shown p q (λ i m. h i (or_true (eqb j i) m)))
 
 -- What is not there is 0.
 
 wait_told : (w : Wait) → (eqb w.kind 0 && eqb w.number 0) ≡ true → w ≡ no_wait
 wait_told w h =
-    let x = eqb_true w.kind 0 (first (eqb w.kind 0) (eqb w.number 0) h) in
-    let y = eqb_true w.number 0 (second (eqb w.kind 0) (eqb w.number 0) h) in
+    let x = eqb-true w.kind 0 (first (eqb w.kind 0) (eqb w.number 0) h) in
+    let y = eqb-true w.number 0 (second (eqb w.kind 0) (eqb w.number 0) h) in
     λ i. record { kind = x i; number = y i }
 
 space_told : (s : Spaces) → s.is ≡ 0 → (eqb s.space 0 && (eqb s.cspace 0 && eqb s.root 0)) ≡ true → s ≡ no_spaces
 space_told s q h =
     let k = second (eqb s.space 0) (eqb s.cspace 0 && eqb s.root 0) h in
-    let x = eqb_true s.space 0 (first (eqb s.space 0) (eqb s.cspace 0 && eqb s.root 0) h) in
-    let y = eqb_true s.cspace 0 (first (eqb s.cspace 0) (eqb s.root 0) k) in
-    let z = eqb_true s.root 0 (second (eqb s.cspace 0) (eqb s.root 0) k) in
+    let x = eqb-true s.space 0 (first (eqb s.space 0) (eqb s.cspace 0 && eqb s.root 0) h) in
+    let y = eqb-true s.cspace 0 (first (eqb s.cspace 0) (eqb s.root 0) k) in
+    let z = eqb-true s.root 0 (second (eqb s.cspace 0) (eqb s.root 0) k) in
     λ i. record { is = q i; space = x i; cspace = y i; root = z i }
 
 -- The codes of thread i, t.
 
 thread_told : (b : Board) (i : ℕ) (t : Thread) → Truths (thread_tests b i t) → SoundThread t
 thread_told b i t (state, (waits, (budget, (spaces, rest)))) = record {
-  state_low = leb_true 1 t.state (first (leb 1 t.state) (leb t.state 5) state);
-  state_high = leb_true t.state 5 (second (leb 1 t.state) (leb t.state 5) state);
+  state_low = leb-true 1 t.state (first (leb 1 t.state) (leb t.state 5) state);
+  state_high = leb-true t.state 5 (second (leb 1 t.state) (leb t.state 5) state);
   waits = λ a. rw a at waits;
   waits_not = λ a. wait_told t.wait (rw a at waits);
-  budget = λ n. eqb_true t.budget.is 1 (rw (ne_eqb t.budget.is 0 n) at budget);
-  no_budget = λ q. (let z = eqb_true t.budget.id 0 (rw (eq_eqb t.budget.is 0 q) at budget) in λ j. record { is = q j; id = z j });
-  spaces = λ n. eqb_true t.spaces.is 1 (rw (ne_eqb t.spaces.is 0 n) at spaces);
-  no_spaces = λ q. space_told t.spaces q (rw (eq_eqb t.spaces.is 0 q) at spaces);
+  budget = λ n. eqb-true t.budget.is 1 (rw (ne_eqb t.budget.is 0 n) at budget);
+  no_budget = λ q. (let z = eqb-true t.budget.id 0 (rw (eq-eqb t.budget.is 0 q) at budget) in λ j. record { is = q j; id = z j });
+  spaces = λ n. eqb-true t.spaces.is 1 (rw (ne_eqb t.spaces.is 0 n) at spaces);
+  no_spaces = λ q. space_told t.spaces q (rw (eq-eqb t.spaces.is 0 q) at spaces);
 }
 
 state_shown : (t : Thread) → SoundThread t → (leb 1 t.state && leb t.state 5) ≡ true
-state_shown t s = rw (le_leb 1 t.state s.state_low, le_leb t.state 5 s.state_high)
+state_shown t s = rw (le-leb 1 t.state s.state_low, le-leb t.state 5 s.state_high)
 
 waits_shown : (t : Thread) → SoundThread t → cond (is blocked t) (wait_listed t.wait.kind) (eqb t.wait.kind 0 && eqb t.wait.number 0) ≡ true
 waits_shown t s = test (is blocked t) (λ a. rw a (s.waits a)) (λ a. rw (a, s.waits_not a))
 
 budget_shown : (t : Thread) → SoundThread t → cond (eqb t.budget.is 0) (eqb t.budget.id 0) (eqb t.budget.is 1) ≡ true
 budget_shown t s = test (eqb t.budget.is 0)
-    (λ a. rw (s.no_budget (eqb_true t.budget.is 0 a)))
-    (λ a. rw a (eq_eqb t.budget.is 1 (s.budget (eqb_false t.budget.is 0 a))))
+    (λ a. rw (s.no_budget (eqb-true t.budget.is 0 a)))
+    (λ a. rw a (eq-eqb t.budget.is 1 (s.budget (eqb-false t.budget.is 0 a))))
 
 spaces_shown : (t : Thread) → SoundThread t
     → cond (eqb t.spaces.is 0) (eqb t.spaces.space 0 && (eqb t.spaces.cspace 0 && eqb t.spaces.root 0)) (eqb t.spaces.is 1) ≡ true
 spaces_shown t s = test (eqb t.spaces.is 0)
-    (λ a. rw (s.no_spaces (eqb_true t.spaces.is 0 a)))
-    (λ a. rw a (eq_eqb t.spaces.is 1 (s.spaces (eqb_false t.spaces.is 0 a))))
+    (λ a. rw (s.no_spaces (eqb-true t.spaces.is 0 a)))
+    (λ a. rw a (eq-eqb t.spaces.is 1 (s.spaces (eqb-false t.spaces.is 0 a))))
 
 -- what holds of each thread that is there and of a fresh one holds of what is read
 pub by_id : (m : List (Row Thread)) (i : ℕ) (C : Thread → Type 0) → ((t : Thread) → at m i ≡ some t → C t) → C (fresh inactive no_budget_id) → C (thread m i)
@@ -107,7 +107,7 @@ sound_told b h =
     (Table.at_all (λ i t. all (thread_tests b i t) ≡ true) m (every_told (λ i t. all (thread_tests b i t)) m threads) i t q) in
     record {
       registry = objects.sound_told b.registry registry;
-      few = leb_true (length m) 128 few;
+      few = leb-true (length m) 128 few;
       rising = rises_told m 0 (2 ^ 64) rising;
       codes = λ i t q. thread_told b i t (fit i t q);
       distinct_queue = dist;
@@ -121,22 +121,22 @@ sound_told b h =
           (by_id m i (λ t. is ready t ≡ true → (eqb i idle || member i b.queue) ≡ true)
           (λ t q. implied (is ready t) (eqb i idle || member i b.queue) (fit i t q).1.1.1.1.0) (λ e. absurd (false≢true e))
           (second (not (eqb i idle)) (is ready (thread m i)) c))
-          (not_true (eqb i idle) (first (not (eqb i idle)) (is ready (thread m i)) c)))))
+          (not-true (eqb i idle) (first (not (eqb i idle)) (is ready (thread m i)) c)))))
           (λ c. sym c)));
       dead_current = λ i. by_id m i (λ t. is dead t ≡ true → i ≡ b.current)
-          (λ t q e. eqb_true i b.current (implied (is dead t) (eqb i b.current) (fit i t q).1.1.1.1.1.0 e))
+          (λ t q e. eqb-true i b.current (implied (is dead t) (eqb i b.current) (fit i t q).1.1.1.1.1.0 e))
           (λ e. absurd (false≢true e));
       running_current = λ i. by_id m i (λ t. is running t ≡ true → eqb i idle ≡ false → i ≡ b.current)
-          (λ t q e x. eqb_true i b.current (either (eqb i idle) (eqb i b.current)
+          (λ t q e x. eqb-true i b.current (either (eqb i idle) (eqb i b.current)
           (implied (is running t) (eqb i idle || eqb i b.current) (fit i t q).1.1.1.1.1.1.0 e) x))
           (λ e. absurd (false≢true e));
       current_here = here;
-      current_active = not_true (is inactive (thread m b.current)) active;
+      current_active = not-true (is inactive (thread m b.current)) active;
       idle_here = idle_here;
       idle_state = idle_state;
-      idle_runs = λ q. implied (eqb b.current idle) (is running (thread m idle)) idle_runs (eq_eqb b.current idle q);
+      idle_runs = λ q. implied (eqb b.current idle) (is running (thread m idle)) idle_runs (eq-eqb b.current idle q);
       budgets = λ i e. same_told (eqb (thread m i).budget.is 0) (unpaid i) (fit i (thread m i) (there m i e)).1.1.1.1.1.1.1.0;
-      few_exits = leb_true (length b.exits) 32 exits;
+      few_exits = leb-true (length b.exits) 32 exits;
       causes = causes;
     }
 
@@ -144,7 +144,7 @@ sound_told b h =
 
 module _ (b : Board) (o : Sound b) (i : ℕ) (a : member i b.queue ≡ true) where
   pub queued_busy : eqb i idle ≡ false
-  queued_busy = not_true (eqb i idle) (first (not (eqb i idle)) (is ready (thread b.threads i)) (sym (o.queued i) ∙ a))
+  queued_busy = not-true (eqb i idle) (first (not (eqb i idle)) (is ready (thread b.threads i)) (sym (o.queued i) ∙ a))
 
   pub queued_ready : is ready (thread b.threads i) ≡ true
   queued_ready = second (not (eqb i idle)) (is ready (thread b.threads i)) (sym (o.queued i) ∙ a)
@@ -158,12 +158,12 @@ sound_shown b o =
     let threads = every_shown (λ i t. all (thread_tests b i t)) m
     (Table.all_at (λ i t. all (thread_tests b i t) ≡ true) m 0 (2 ^ 64) o.rising one) in
     let queue = each_shown (λ i. not (eqb i idle) && (has m i && is ready (thread m i))) b.queue queue_one in
-    let idle_runs = implying (eqb b.current idle) (is running (thread m idle)) (λ e. o.idle_runs (eqb_true b.current idle e)) in
+    let idle_runs = implying (eqb b.current idle) (is running (thread m idle)) (λ e. o.idle_runs (eqb-true b.current idle e)) in
     let active : not (is inactive (thread m b.current)) ≡ true = rw o.current_active in
     all_shown (board_tests b) (
       objects.sound_shown b.registry o.registry,
       (
-        le_leb (length m) 128 o.few,
+        le-leb (length m) 128 o.few,
         (
           rises_shown m 0 (2 ^ 64) o.rising,
           (
@@ -172,7 +172,7 @@ sound_shown b o =
               o.distinct_queue,
               (
                 queue,
-                (o.current_here, (active, (o.idle_here, (o.idle_state, (idle_runs, (le_leb (length b.exits) 32 o.few_exits, (o.causes, tt))))))),
+                (o.current_here, (active, (o.idle_here, (o.idle_state, (idle_runs, (le-leb (length b.exits) 32 o.few_exits, (o.causes, tt))))))),
               ),
             ),
           ),
@@ -188,9 +188,9 @@ sound_shown b o =
         let s = o.codes i t q in
         let e : thread b.threads i ≡ t = ap or_fresh q in
         let is_queued = implying (is ready t) (eqb i idle || member i b.queue) (λ r. test (eqb i idle) (λ a. rw a) (λ a. rw (a, o.queued i, e, r, a))) in
-        let is_current = implying (is dead t) (eqb i b.current) (λ d. eq_eqb i b.current (o.dead_current i (rw e d))) in
+        let is_current = implying (is dead t) (eqb i b.current) (λ d. eq-eqb i b.current (o.dead_current i (rw e d))) in
         let runs = implying (is running t) (eqb i idle || eqb i b.current) (λ r. test (eqb i idle) (λ a. rw a)
-        (λ a. rw a (eq_eqb i b.current (o.running_current i (rw e r) a)))) in
+        (λ a. rw a (eq-eqb i b.current (o.running_current i (rw e r) a)))) in
         let paid = same_shown (eqb t.budget.is 0) (unpaid i) (rw e at (o.budgets i (ap found q))) in
         all_shown (thread_tests b i t)
         (state_shown t s, (waits_shown t s, (budget_shown t s, (spaces_shown t s, (is_queued, (is_current, (runs, (paid, tt))))))))

@@ -27,7 +27,7 @@ use Rattle.carv_scheduler_spec.specs.laws.SoundLaws.{by_id}
 
 -- a thread in one state is in no other
 pub other_state : (s s' : ℕ) (t : Thread) → is s t ≡ true → eqb s s' ≡ false → is s' t ≡ false
-other_state s s' t h n = rw (eqb_true t.state s h, n)
+other_state s s' t h n = rw (eqb-true t.state s h, n)
 
 -- one that is Ready or Running is in no third
 pub up_not : (t : Thread) (s : ℕ) → (is ready t || is running t) ≡ true → eqb s ready ≡ false → eqb s running ≡ false → is s t ≡ false
@@ -147,22 +147,22 @@ change_kept b i f q exits o g few_exits causes =
       rising = Table.rising_alter m 0 (2 ^ 64) i f o.rising;
       codes = codes_by (alter i f m) (λ j. rw (now j) (test (eqb i j) (λ a. rw a g.codes) (λ a. rw a (codes_of b o j))));
       distinct_queue = g.distinct_queue;
-      queued = λ j. g.queued j ∙ rw (now j) (test (eqb i j) (λ a. rw (a, eqb_true i j a)) (λ a. rw a (o.queued j)));
+      queued = λ j. g.queued j ∙ rw (now j) (test (eqb i j) (λ a. rw (a, eqb-true i j a)) (λ a. rw a (o.queued j)));
       dead_current = λ j d. test (eqb i j)
-          (λ a. sym (eqb_true i j a) ∙ g.dead_current (rw (now j, a) at d))
+          (λ a. sym (eqb-true i j a) ∙ g.dead_current (rw (now j, a) at d))
           (λ a. o.dead_current j (rw (now j, a) at d));
       running_current = λ j d e. test (eqb i j)
-          (λ a. sym (eqb_true i j a) ∙ g.running_current (rw (now j, a) at d) (rw (eqb_true i j a) e))
+          (λ a. sym (eqb-true i j a) ∙ g.running_current (rw (now j, a) at d) (rw (eqb-true i j a) e))
           (λ a. o.running_current j (rw (now j, a) at d) e);
       current_here = here b.current ∙ o.current_here;
       current_active = rw (now b.current) (test (eqb i b.current)
-          (λ a. rw a (g.current_active (eqb_true i b.current a)))
+          (λ a. rw a (g.current_active (eqb-true i b.current a)))
           (λ a. rw a o.current_active));
       idle_here = here idle ∙ o.idle_here;
-      idle_state = rw (now idle) (test (eqb i idle) (λ a. rw a (g.idle_state (eqb_true i idle a))) (λ a. rw a o.idle_state));
-      idle_runs = λ z. rw (now idle) (test (eqb i idle) (λ a. rw a (g.idle_runs (eqb_true i idle a) z)) (λ a. rw a (o.idle_runs z)));
+      idle_state = rw (now idle) (test (eqb i idle) (λ a. rw a (g.idle_state (eqb-true i idle a))) (λ a. rw a o.idle_state));
+      idle_runs = λ z. rw (now idle) (test (eqb i idle) (λ a. rw a (g.idle_runs (eqb-true i idle a) z)) (λ a. rw a (o.idle_runs z)));
       budgets = λ j d. rw (now j) (let k = o.budgets j (sym (here j) ∙ d) in
-          test (eqb i j) (λ a. rw (a, g.budget, eqb_true i j a) k) (λ a. rw a k));
+          test (eqb i j) (λ a. rw (a, g.budget, eqb-true i j a) k) (λ a. rw a k));
       few_exits = few_exits;
       causes = causes;
     }
@@ -184,7 +184,7 @@ join_kept b i f o h busy was_not codes s budget = change_kept b i f (join b.queu
       running_current = λ d e. absurd (false≢true (rw s at d));
       current_active = λ q. rw s;
       idle_state = λ q. rw s;
-      idle_runs = λ q z. absurd (eqb_false i idle busy q);
+      idle_runs = λ q z. absurd (eqb-false i idle busy q);
     })
     o.few_exits o.causes
 
@@ -212,16 +212,16 @@ stop_kept b s w exits o busy codes unready active = change_kept b b.current (bec
       dead_current = λ d. refl;
       running_current = λ d e. refl;
       current_active = λ q. active;
-      idle_state = λ q. absurd (eqb_false b.current idle busy q);
-      idle_runs = λ q z. absurd (eqb_false b.current idle busy q);
+      idle_state = λ q. absurd (eqb-false b.current idle busy q);
+      idle_runs = λ q z. absurd (eqb-false b.current idle busy q);
     })
 
 -- The log stays short, and its causes listed ones.
 
 pub logged_few : (e : Exit) (l : List Exit) → length l ≤ 32 → length (logged e l) ≤ 32
 logged_few e l h = test (eqb (length l) 32)
-    (λ a. rw a (simp (length_append, length_drop) (omega (arith, eqb_true (length l) 32 a))))
-    (λ a. rw a (simp length_append (below (length l) h (eqb_false (length l) 32 a))))
+    (λ a. rw a (simp (length-append, length-drop) (omega (arith, eqb-true (length l) 32 a))))
+    (λ a. rw a (simp length-append (below (length l) h (eqb-false (length l) 32 a))))
   where
     below : (n : ℕ) → n ≤ 32 → (n ≡ 32 → ⊥) → n + 1 ≤ 32
     below n h d = omega arith
@@ -286,7 +286,7 @@ gone_kept b i exits o busy away few_exits causes =
 -- a new thread has the state that it read as before: Inactive
 pub put_state : (m : List (Row Thread)) (i : ℕ) (p : BudgetId) → has m i ≡ false → (j : ℕ) → (thread (put i (fresh inactive p) m) j).state ≡ (thread m j).state
 put_state m i p h j = rw (thread_put m i (fresh inactive p) j) (test (eqb i j)
-    (λ a. rw (a, ← eqb_true i j a, absent m i h))
+    (λ a. rw (a, ← eqb-true i j a, absent m i h))
     (λ a. rw a))
 
 -- Registries.
@@ -326,7 +326,7 @@ ticked_kept b i o h = change_kept b i ticked b.queue b.exits o
       codes = ticked_sound (thread b.threads i) (codes_of b o i);
       budget = refl;
       distinct_queue = o.distinct_queue;
-      queued = λ j. test (eqb i j) (λ a. rw (a, ← eqb_true i j a) (o.queued i)) (λ a. rw a);
+      queued = λ j. test (eqb i j) (λ a. rw (a, ← eqb-true i j a) (o.queued i)) (λ a. rw a);
       dead_current = o.dead_current i;
       running_current = o.running_current i;
       current_active = λ q. rw q o.current_active;

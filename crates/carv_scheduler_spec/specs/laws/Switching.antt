@@ -36,7 +36,7 @@ module _ (time : ℕ) (m : List (Row Thread)) where
   choose_in (i ∷ q) r h =
       let r' = renew_for time (thread m i).budget r in
       test (eligible i r)
-      (λ a. rw (a, eq_eqb i i refl))
+      (λ a. rw (a, eq-eqb i i refl))
       (λ a. rw a (or_true (eqb i (choose time m q r').next) (choose_in q r' (rw a at h))))
 
   pub choose_has : (q : List ℕ) (r : Registry) → eqb (choose time m q r).next idle ≡ false → has m (choose time m q r).next ≡ true
@@ -57,11 +57,11 @@ module _ (time : ℕ) (m : List (Row Thread)) where
       → (j : ℕ) → member j (choose time m q r).rest ≡ (not (eqb (choose time m q r).next j) && member j q)
   choose_rest [] r d h j = sym (and_false (not (eqb idle j)))
   choose_rest (i ∷ q) r d h j = test (eligible i r)
-      (λ a. rw a (test (eqb i j) (λ b. rw (b, ← eqb_true i j b) (distinct_first i q d)) (λ b. rw b)))
+      (λ a. rw a (test (eqb i j) (λ b. rw (b, ← eqb-true i j b) (distinct_first i q d)) (λ b. rw b)))
       (λ a. let r' = renew_for time (thread m i).budget r in
       let (i_busy, q_busy) = neither (eqb i idle) (member idle q) h in
       rw (a, choose_rest q r' (distinct_rest i q d) q_busy j) (test (eqb i j)
-      (λ b. rw (b, ← eqb_true i j b, choose_not i q r' i_busy (distinct_first i q d)))
+      (λ b. rw (b, ← eqb-true i j b, choose_not i q r' i_busy (distinct_first i q d)))
       (λ b. rw b)))
 
   pub choose_distinct : (q : List ℕ) (r : Registry) → distinct q ≡ true → member idle q ≡ false → distinct (choose time m q r).rest ≡ true
@@ -84,14 +84,14 @@ module _ (b : Board) (o : Sound b) (time : ℕ) (r : Registry) where
   choose_state =
       let i = (choose time b.threads b.queue r).next in
       test (eqb i idle)
-      (λ a. rw (eqb_true i idle a) o.idle_state)
+      (λ a. rw (eqb-true i idle a) o.idle_state)
       (λ a. rw (queued_ready b o i (choose_in time b.threads b.queue r a)))
 
   pub choose_there : has b.threads (choose time b.threads b.queue r).next ≡ true
   choose_there =
       let i = (choose time b.threads b.queue r).next in
       test (eqb i idle)
-      (λ a. rw (eqb_true i idle a) o.idle_here)
+      (λ a. rw (eqb-true i idle a) o.idle_here)
       (λ a. choose_has time b.threads b.queue r a)
 
 -- The current thread is put back.
@@ -105,7 +105,7 @@ put_back_kept b o =
     test (not (eqb b.current idle) && is running t)
     (λ a. let s = second (not (eqb b.current idle)) (is running t) a in
     rw a (join_kept b b.current (become ready no_wait) o o.current_here
-    (not_true (eqb b.current idle) (first (not (eqb b.current idle)) (is running t) a)) (other_state running ready t s refl)
+    (not-true (eqb b.current idle) (first (not (eqb b.current idle)) (is running t) a)) (other_state running ready t s refl)
     (no_wait_sound ready t (codes_of b o b.current) (omega arith) (omega arith) refl) refl refl))
     (λ a. rw a o)
 
@@ -114,7 +114,7 @@ pub put_back_idle : (b : Board) → Sound b → is running (thread (put_back b).
 put_back_idle b o = test (not (eqb b.current idle) && is running (thread b.threads b.current))
     (λ a. rw a (λ h. absurd (false≢true (rw (
       thread_alter b.threads b.current (become ready no_wait) o.current_here b.current,
-      eq_eqb b.current b.current refl,
+      eq-eqb b.current b.current refl,
     ) at h))))
     (λ a. rw a (λ h. test (eqb b.current idle) (λ c. c) (λ c. absurd (true≢false (rw (c, h) at a)))))
 
@@ -177,21 +177,21 @@ module _ (b : Board) (o : Sound b) (i : ℕ) (h : has b.threads i ≡ true) wher
       → Switched b i (erase b.current (alter i (become running no_wait) b.threads))
   leaves y =
       let m = alter i (become running no_wait) b.threads in
-      let off = not_true (eqb i b.current) (first (not (eqb i b.current)) (is dead (thread b.threads b.current)) y) in
+      let off = not-true (eqb i b.current) (first (not (eqb i b.current)) (is dead (thread b.threads b.current)) y) in
       let d = second (not (eqb i b.current)) (is dead (thread b.threads b.current)) y in
       record {
         few = omega (arith, Table.length_erase m b.current, Table.length_alter b.threads i (become running no_wait), o.few);
         rising = Table.rising_erase m 0 (2 ^ 64) b.current run_rising;
         after = λ j. rw (thread_erase m b.current 0 (2 ^ 64) run_rising j) (test (eqb b.current j)
-            (λ a. rw (a, ← eqb_true b.current j a, off, d))
+            (λ a. rw (a, ← eqb-true b.current j a, off, d))
             (λ a. rw (a, run_now j) (test (eqb i j) (λ c. rw c) (λ c. rw (c, alive j a)))));
         here = λ j. rw (has_erase m b.current 0 (2 ^ 64) run_rising j) (test (eqb b.current j)
-            (λ a. rw (a, ← eqb_true b.current j a, off, d) (sym (and_false (has b.threads b.current))))
+            (λ a. rw (a, ← eqb-true b.current j a, off, d) (sym (and_false (has b.threads b.current))))
             (λ a. rw (a, run_here j, alive j a, or_true (eqb i j) {c = true} refl) (sym (and_true (has b.threads j)))));
       }
     where
       alive : (j : ℕ) → eqb b.current j ≡ false → is dead (thread b.threads j) ≡ false
-      alive j a = test (is dead (thread b.threads j)) (λ d. absurd (eqb_false b.current j a (sym (o.dead_current j d)))) (λ d. d)
+      alive j a = test (is dead (thread b.threads j)) (λ d. absurd (eqb-false b.current j a (sym (o.dead_current j d)))) (λ d. d)
 
 pub switched : (b : Board) (c : Choice) → Sound b → has b.threads c.next ≡ true → Switched b c.next (switch_to c b).threads
 switched b c o h = test (not (eqb c.next b.current) && is dead (thread b.threads b.current))
@@ -201,7 +201,7 @@ switched b c o h = test (not (eqb c.next b.current) && is dead (thread b.threads
 -- What is read after a switch: the chosen thread runs; the waits are the same, and so are the budgets of those that are there.
 module _ (b : Board) (i : ℕ) (m : List (Row Thread)) (w : Switched b i m) where
   pub switched_runs : is running (thread m i) ≡ true
-  switched_runs = rw (w.after i, eq_eqb i i refl)
+  switched_runs = rw (w.after i, eq-eqb i i refl)
 
   pub switched_has : (j : ℕ) → has m j ≡ true → has b.threads j ≡ true
   switched_has j h = first (has b.threads j) (eqb i j || not (is dead (thread b.threads j))) (sym (w.here j) ∙ h)
@@ -210,13 +210,13 @@ module _ (b : Board) (i : ℕ) (m : List (Row Thread)) (w : Switched b i m) wher
   switched_budget j h =
       let y = second (has b.threads j) (eqb i j || not (is dead (thread b.threads j))) (sym (w.here j) ∙ h) in
       rw (w.after j) (test (eqb i j)
-      (λ a. rw (a, eqb_true i j a))
-      (λ a. rw (a, not_true (is dead (thread b.threads j)) (rw a at y))))
+      (λ a. rw (a, eqb-true i j a))
+      (λ a. rw (a, not-true (is dead (thread b.threads j)) (rw a at y))))
 
   pub switched_wait : (is ready (thread b.threads i) || is running (thread b.threads i)) ≡ true
       → (j : ℕ) → wait_of (thread m j) ≡ wait_of (thread b.threads j)
   switched_wait up j = rw (w.after j) (test (eqb i j)
-      (λ a. rw (a, ← eqb_true i j a, up_not (thread b.threads i) blocked up refl refl))
+      (λ a. rw (a, ← eqb-true i j a, up_not (thread b.threads i) blocked up refl refl))
       (λ a. rw a (test (is dead (thread b.threads j))
       (λ d. rw (d, other_state dead blocked (thread b.threads j) d refl))
       (λ d. rw d))))
@@ -245,7 +245,7 @@ switch_to_kept b c o k only =
     let i = c.next in
     let m = b.threads in
     let w = switched b c o k.here in
-    let on = eq_eqb i i refl in
+    let on = eq-eqb i i refl in
     record {
       registry = k.registry;
       few = w.few;
@@ -258,10 +258,10 @@ switch_to_kept b c o k only =
           (λ a. rw a (sym (and_false (not (eqb j idle)))))
           (λ a. rw (a, cleared_is (thread m j) ready refl refl) (o.queued j)));
       dead_current = λ j d. test (eqb i j)
-          (λ a. sym (eqb_true i j a))
+          (λ a. sym (eqb-true i j a))
           (λ a. absurd (false≢true (sym (cleared_dead (thread m j)) ∙ rw (w.after j, a) at d)));
       running_current = λ j d e. test (eqb i j)
-          (λ a. sym (eqb_true i j a))
+          (λ a. sym (eqb-true i j a))
           (λ a. let r = sym (cleared_is (thread m j) running refl refl) ∙ rw (w.after j, a) at d in
           let q = o.running_current j r e in
           absurd (false≢true (sym e ∙ rw q (only (rw q at r)))));
@@ -271,7 +271,7 @@ switch_to_kept b c o k only =
       idle_state = rw (w.after idle) (test (eqb i idle)
           (λ a. rw a)
           (λ a. rw (a, cleared_is (thread m idle) ready refl refl, cleared_is (thread m idle) running refl refl) o.idle_state));
-      idle_runs = λ q. rw (w.after idle, eq_eqb i idle q);
+      idle_runs = λ q. rw (w.after idle, eq-eqb i idle q);
       budgets = λ j d. rw (switched_budget b i (switch_to c b).threads w j d) (o.budgets j (switched_has b i (switch_to c b).threads w j d));
       few_exits = o.few_exits;
       causes = o.causes;

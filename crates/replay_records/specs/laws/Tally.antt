@@ -6,7 +6,7 @@ use Rattle.replay_records.specs.Tally.{block_bytes, cut, added, Room, Counted}
 
 -- records of a block
 pub records_few : (n size : ℕ) → n ≤ 65_536 → n / size ≤ 65_536
-records_few n size h = omega (arith, h, div_le_self n size)
+records_few n size h = omega (arith, h, div-le_self n size)
 
 one_most : (b : Bool) → cond b 0 1 ≤ 1
 one_most true = omega arith
@@ -16,7 +16,7 @@ one_most false = omega arith
 pub added_full : (t : Tally) (n size d k : ℕ) → k ≡ cut n size → n ≡ block_bytes size
     → record { calls = t.calls + n / size; differences = t.differences + d + k; blocks = t.blocks - 1 } ≡ added t n size d
 unfolding added
-added_full t n size d k e p = rw (e, eq_eqb _ _ p)
+added_full t n size d k e p = rw (e, eq-eqb _ _ p)
 
 pub added_last : (t : Tally) (n size d k : ℕ) → k ≡ cut n size → (n ≡ block_bytes size → ⊥)
     → record { calls = t.calls + n / size; differences = t.differences + d + k; blocks = 0 } ≡ added t n size d
@@ -54,4 +54,4 @@ behind_kept k m xs l e h = rw (← e) (drop_at xs (drop m l) m h)
 -- a block fits the buffer
 pub block_fits : (n size : ℕ) → n ≤ block_bytes size → n ≤ 65_536
 unfolding block_bytes
-block_fits n size h = let t : 65_536 / size * size ≤ 65_536 = div_mul_le_self 65_536 size in omega (arith, h, t)
+block_fits n size h = let t : 65_536 / size * size ≤ 65_536 = div-mul-le_self 65_536 size in omega (arith, h, t)
