@@ -1,5 +1,7 @@
 // The functions for C: the area and 20 answer words are lent, the number is returned, and the values of the answer stand in the
 // first answer words. specs/C.antt says which.
+#![tactic(auto)]
+
 ghost use Rattle.std.specs.Prelude.{◌≡◌, length};
 ghost use Rattle.std.proofs.lemmas.List.Edits.{sets};
 ghost use Rattle.carv_objects.specs.Answer as registry;

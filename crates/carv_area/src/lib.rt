@@ -1,5 +1,7 @@
 // 64-bit words in a lent area of bytes, the least byte first, and tables in it. A function that changes its bytes gives them all: the words,
 // and that those behind the last whole word stay.
+#![tactic(auto)]
+
 ghost use Rattle.std.specs.Prelude.{◌≡◌, ◌⊎◌, [], ◌∷◌, ◌++◌, ◌+◌, ◌*◌, ◌-◌, ◌≤◌, ◌<◌, length, get_or, set, drop};
 ghost use Rattle.carv_area.specs.Le.{le2, le4, le8, set2, set4, set8};
 ghost use Rattle.carv_area.specs.Words.{words, rest, Writes};
@@ -89,7 +91,7 @@ pub fn put(a: &mut [u8], k: usize, v: u64)
 // ---- tables
 
 // The place of a row, if there is one.
-#[derive(Drop)]
+#[derive(Clone, Copy)]
 pub enum Found {
     At(usize),
     Nothing,

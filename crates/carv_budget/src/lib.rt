@@ -1,11 +1,13 @@
 // Budget accounts: CPU time per period, memory, and children carved out of both.
 // After carv-budget/src/lib.rs, without TokenBucket. Each operation takes the account by value and
 // hands it back beside its answer; specs/Account.antt says what each leaves and answers.
+#![tactic(auto)]
+
 ghost use Rattle.std.specs.Prelude.{◌≡◌, true, ◌+◌, ◌≤◌, leb};
 ghost use Rattle.carv_budget.specs.Account.{number, sound, fresh, due, renew, free, spent, reserve, returnable, open_account, refill, charge_cpu, charge_memory, release_memory, carve_out, release_child, Lent};
 
 // CPU figures are in nanoseconds, memory figures in bytes. The line is the last four.
-#[derive(Drop)]
+#[derive(Clone, Copy)]
 pub struct Account {
     pub cpu_allowance: u64,
     pub memory_limit: u64,
@@ -18,7 +20,7 @@ pub struct Account {
 
 // What a call answers. The errors bear the Rust's names; the Rust answers true and false for
 // Renewed and NotDue, and false for CpuLimitReached. Unsound is added.
-#[derive(Drop)]
+#[derive(Clone, Copy)]
 pub enum Answer {
     Done,
     Renewed,
@@ -55,14 +57,14 @@ impl Answer {
 }
 
 // The account as the call leaves it, beside the answer.
-#[derive(Drop)]
+#[derive(Clone, Copy)]
 pub struct Outcome {
     pub account: Account,
     pub answer: Answer,
 }
 
 // The parent as the call leaves it, the child, blank where there is none, and the answer.
-#[derive(Drop)]
+#[derive(Clone, Copy)]
 pub struct CarveOut {
     pub parent: Account,
     pub child: Account,

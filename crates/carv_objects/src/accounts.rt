@@ -6,14 +6,14 @@ ghost use Rattle.carv_objects.specs.laws.Booked.{Books, Carves, done};
 use carv_budget::{Account, Answer, Outcome};
 
 // An account with the operation booked, or its refusal.
-#[derive(Drop)]
+#[derive(Clone, Copy)]
 pub enum Booked {
     Yes(Account),
     No,
 }
 
 // The parent and the child of a carve-out, or its refusal.
-#[derive(Drop)]
+#[derive(Clone, Copy)]
 pub enum Carved {
     Yes(Account, Account),
     No,

@@ -3,7 +3,7 @@ ghost use Rattle.std.specs.Prelude.{◌≡◌};
 ghost use Rattle.carv_objects_spec.specs.Registry.{listed};
 ghost use Rattle.carv_objects.specs.Kinds.{code, kind_bytes, kind_creatable, kind_needs_backing, Named};
 
-#[derive(Drop)]
+#[derive(Clone, Copy)]
 pub enum Kind {
     Thread,
     AddressSpace,
@@ -17,7 +17,7 @@ pub enum Kind {
 }
 
 // The kind that a code names.
-#[derive(Drop)]
+#[derive(Clone, Copy)]
 pub enum KindCode {
     Listed(Kind),
     Unlisted,

@@ -1,5 +1,7 @@
 // The object registry: objects under rising ids, each paid for by a budget, and the budgets' accounts.
 // After kernel/src/objects.rs and the kinds of carv-abi.
+#![tactic(auto)]
+
 mod accounts;
 mod area;
 pub mod calls;
@@ -23,7 +25,7 @@ pub use opening::open;
 pub use sound::is_sound;
 
 // What a call answers: specs/Answer.antt gives document 01's number and the values.
-#[derive(Drop)]
+#[derive(Clone, Copy)]
 pub enum Answer {
     Done,
     Id(u64),

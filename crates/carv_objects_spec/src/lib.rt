@@ -1,9 +1,11 @@
 // What a registry holds: entries under rising ids. The definitions of every call on it, and the theorems on them, stand in specs/;
 // carv_objects has the code. After kernel/src/objects.rs and the kinds of carv-abi.
+#![tactic(auto)]
+
 use carv_budget::Account;
 
 // What stands under an id. An entry that is no budget has a blank account.
-#[derive(Drop)]
+#[derive(Clone, Copy)]
 pub struct Entry {
     pub kind: u64,
     pub payer: u64,
@@ -12,7 +14,7 @@ pub struct Entry {
 }
 
 // A budget with all below it, summed: memory used, memory free, CPU left.
-#[derive(Drop)]
+#[derive(Clone, Copy)]
 pub struct Totals {
     pub memory_used: u64,
     pub memory_free: u64,

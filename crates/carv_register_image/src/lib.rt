@@ -1,4 +1,6 @@
 // The register image of a new thread, in 512 lent bytes, written eight bytes a step. After FxState in kernel/src/arch/x86_64/syscall.rs.
+#![tactic(auto)]
+
 ghost use Rattle.std.specs.Prelude.{◌≡◌, ◌-◌, ◌≤◌, length, get_or};
 ghost use Rattle.carv_area.specs.Words.{words};
 ghost use Rattle.carv_register_image.specs.Image.{register_image, eight_written, after_step, Final};

@@ -116,7 +116,7 @@ pub fn exit_of(a: &[u8], id: u64) -> Answer
 }
 
 // What a run of exits says of a thread: the cause of its end, or nothing.
-#[derive(Drop)]
+#[derive(Clone, Copy)]
 pub enum Cause {
     Logged(u64),
     Nothing,

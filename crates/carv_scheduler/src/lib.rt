@@ -1,4 +1,5 @@
 // Threads, the ready queue and the exit log, and the board of these and the registry. After kernel/src/scheduler.rs.
+#![tactic(auto)]
 
 mod area;
 mod calls;
@@ -29,7 +30,7 @@ pub use opening::open;
 pub use sound::is_sound;
 
 // What a call answers: specs/Answer.antt gives document 01's number and the values.
-#[derive(Drop)]
+#[derive(Clone, Copy)]
 pub enum Answer {
     Done,
     Registry(carv_objects::Answer),

@@ -14,14 +14,14 @@ use carv_area::Found;
 use carv_objects::refused;
 
 // The thread to run: its places in the queue and in the table, or idle.
-#[derive(Drop)]
+#[derive(Clone, Copy)]
 pub enum Next {
     At(usize, usize),
     Idle,
 }
 
 // The thread to run, out of the queue: its id, and its place in the table.
-#[derive(Drop)]
+#[derive(Clone, Copy)]
 pub struct Chosen {
     pub id: u64,
     pub at: Found,

@@ -2,21 +2,23 @@
 // them, stand in specs/; carv_scheduler has the code. After kernel/src/scheduler.rs.
 
 // What a blocked thread waits for: kind 1 Send, 2 Recv, 3 Reply, 4 Notification, 5 Sleep; 0 where it waits for nothing.
-#[derive(Drop)]
+#![tactic(auto)]
+
+#[derive(Clone, Copy)]
 pub struct Wait {
     pub kind: u64,
     pub number: u64,
 }
 
 // A budget id, or none where is = 0.
-#[derive(Drop)]
+#[derive(Clone, Copy)]
 pub struct BudgetId {
     pub is: u64,
     pub id: u64,
 }
 
 // Where a started thread runs: address space, capability space and page-table root; none where is = 0.
-#[derive(Drop)]
+#[derive(Clone, Copy)]
 pub struct Spaces {
     pub is: u64,
     pub space: u64,
@@ -25,7 +27,7 @@ pub struct Spaces {
 }
 
 // The seven words of UserContext.
-#[derive(Drop)]
+#[derive(Clone, Copy)]
 pub struct Context {
     pub rip: u64,
     pub rsp: u64,
@@ -37,7 +39,7 @@ pub struct Context {
 }
 
 // The three result words that a blocked system call completes with.
-#[derive(Drop)]
+#[derive(Clone, Copy)]
 pub struct Results {
     pub first: u64,
     pub second: u64,
@@ -45,7 +47,7 @@ pub struct Results {
 }
 
 // A thread record. State: 1 Inactive, 2 Ready, 3 Running, 4 Blocked, 5 Dead.
-#[derive(Drop)]
+#[derive(Clone, Copy)]
 pub struct Thread {
     pub state: u64,
     pub wait: Wait,
@@ -57,7 +59,7 @@ pub struct Thread {
 }
 
 // A thread's end. Cause: 1 Destroyed, 2 Faulted.
-#[derive(Drop)]
+#[derive(Clone, Copy)]
 pub struct Exit {
     pub thread: u64,
     pub cause: u64,

@@ -1,6 +1,8 @@
 // Replays recorded calls on budget accounts: reads records from standard input, makes each record's
 // call, compares what it answers and leaves with the record, and writes how many calls there were
 // and how many of them differ. specs/Record.antt says what a record holds.
+#![tactic(auto)]
+
 ghost use Rattle.std.specs.Prelude.{◌≡◌, ◌*◌, ◌≤◌, ◌<◌, length};
 ghost use Rattle.replay_records.specs.Tally.{Room, Counted};
 ghost use Rattle.replay_accounts.specs.Replay.{Differ};

@@ -6,7 +6,7 @@ use carv_area::get;
 use carv_budget::Account;
 
 // The call that a record tells of.
-#[derive(Drop)]
+#[derive(Clone, Copy)]
 pub struct Call {
     pub op: u64,
     pub account: Account,
@@ -17,7 +17,7 @@ pub struct Call {
 }
 
 // What a call answers and leaves.
-#[derive(Drop)]
+#[derive(Clone, Copy)]
 pub struct Reply {
     pub number: u64,
     pub value: u64,

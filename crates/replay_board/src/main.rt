@@ -1,6 +1,8 @@
 // Replays recorded calls on one board: reads records from standard input, makes each record's call on an
 // area that starts as zeros, compares the answer with the record, and writes which calls differ, and at
 // the end how many calls there were and how many of them differ. specs/Record.antt says what a record holds.
+#![tactic(auto)]
+
 ghost use Rattle.std.specs.Prelude.{◌≡◌, ◌+◌, ◌*◌, ◌≤◌, ◌<◌, length};
 ghost use Rattle.replay_records.specs.Tally.{Room, Counted};
 ghost use Rattle.replay_board.specs.Replay.{Replays};

@@ -6,7 +6,7 @@ ghost use Rattle.replay_board.specs.Record.{call, recorded_word, recorded, Tells
 use carv_area::get;
 
 // The call that a record tells of: its code and its arguments.
-#[derive(Drop)]
+#[derive(Clone, Copy)]
 pub struct Call {
     pub op: u64,
     pub first: u64,

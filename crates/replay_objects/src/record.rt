@@ -5,7 +5,7 @@ ghost use Rattle.replay_objects.specs.Record.{call, reply};
 use carv_area::get;
 
 // The call that a record tells of.
-#[derive(Drop)]
+#[derive(Clone, Copy)]
 pub struct Call {
     pub op: u64,
     pub first: u64,
@@ -15,7 +15,7 @@ pub struct Call {
 }
 
 // An answer: its number, and its values, as many as it has, the rest 0.
-#[derive(Drop)]
+#[derive(Clone, Copy)]
 pub struct Reply {
     pub number: u64,
     pub first: u64,

@@ -2,6 +2,8 @@
 // give. A record is a number of 64-bit words, which carv_area::get reads. The loops over blocks and over records stay in the programs, as
 // no function can be handed another, and with them what is theirs: a record's layout, its calls, and the line that tells the tally, of
 // which no contract could say anything.
+#![tactic(auto)]
+
 ghost use Rattle.std.specs.Prelude.{◌≡◌, ◌/◌, ◌≤◌, ◌<◌, length, drop};
 ghost use Rattle.replay_records.specs.Tally.{block_bytes, cut, started, added, Room};
 
@@ -10,7 +12,7 @@ const BUFFER_BYTES: usize = 65_536;
 
 // What the blocks so far give, and how many more may come. A proved loop has to end, and nothing says that the input does. So the
 // blocks are counted down, from a number that no run uses up.
-#[derive(Drop)]
+#[derive(Clone, Copy)]
 pub struct Tally {
     pub calls: u64,
     pub differences: u64,

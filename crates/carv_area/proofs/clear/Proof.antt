@@ -12,10 +12,10 @@ use borrow.Author.Rules.{rules}
 use Rattle.carv_area.proofs.clear.Statement.{statement}
 use Rattle.carv_area.proofs.clear.Tie as tie
 
-abbrev invariant_loop : tie.invariant_loop
+abbrev invariant_loop : tie.invariant-loop-j
 invariant_loop t₀ o n j₀ t j = (j ≤ n) × (length t ≡ length t₀) × Writes t₀ t (paste (words t₀) o (zeros n) j)
 
-abbrev decreases_loop : tie.decreases_loop
+abbrev decreases_loop : tie.decreases-loop-j
 decreases_loop t₀ o n j₀ t j = n - j
 
 pub clear_spec : {M : Type 1} → statement M
@@ -31,7 +31,7 @@ clear_spec =
     (λ c. search rules)  -- loop-less
     (λ c. let a = c.before.before.before.before.before.before.before.args in
     let l = words a.t.now in
-    let s = wipe_more l a.o a.n c.before.before.before.before.before.loop.j (omega (arith, length_words a.t.now)) (omega arith) in
+    let s = wipe_more l a.o a.n c.before.before.before.before.before.loop-j.j (omega (arith, length_words a.t.now)) (omega arith) in
     (omega arith, search rules, record { words = cc; rest = cc }))  -- loop-again
     (λ c. search rules)  -- same-length
-    (λ c. let e : c.before.loop.j ≡ c.before.before.before.args.n = omega arith in rw e at c.before.loop.invariant.2))  -- returns
+    (λ c. let e : c.before.loop-j.j ≡ c.before.before.before.args.n = omega arith in rw e at c.before.loop-j.invariant.2))  -- returns

@@ -13,10 +13,10 @@ use borrow.Author.Rules.{rules}
 use Rattle.carv_area.proofs.zero_from.Statement.{statement}
 use Rattle.carv_area.proofs.zero_from.Tie as tie
 
-abbrev invariant_loop : tie.invariant_loop
+abbrev invariant_loop : tie.invariant-loop-i
 invariant_loop t k n i₀ x₀ i x = eqb x 0 && all_zero (drop i (words t)) ≡ all_zero (drop k (words t))
 
-abbrev decreases_loop : tie.decreases_loop
+abbrev decreases_loop : tie.decreases-loop-i
 decreases_loop t k n i₀ x₀ i x = n - i
 
 pub zero_from_spec : {M : Type 1} → statement M
@@ -30,6 +30,6 @@ zero_from_spec =
     (λ c. search rules)  -- add-i
     (λ c. search rules)  -- loop-less
     (λ c. let l = c.before.before.before.before.args.t.now in
-    rw c.get.ensures (zero_more (words l) c.before.before.loop.i c.before.before.loop.x (omega (arith, length_words l)) ∙ c.before.before.loop.invariant))  -- loop-again
+    rw c.get-x.ensures (zero_more (words l) c.before.before.loop-i.i c.before.before.loop-i.x (omega (arith, length_words l)) ∙ c.before.before.loop-i.invariant))  -- loop-again
     (λ c. let l = c.before.before.before.args.t.now in
-    sym (zero_done (words l) c.before.loop.i c.before.loop.x (omega (arith, length_words l))) ∙ c.before.loop.invariant))  -- returns
+    sym (zero_done (words l) c.before.loop-i.i c.before.loop-i.x (omega (arith, length_words l))) ∙ c.before.loop-i.invariant))  -- returns
