@@ -1,6 +1,6 @@
 -- Planning: what is chosen from the queue, and that putting back and switching keep a sound board sound. Assumes nothing.
 use Rattle.std.specs.Prelude.{◌≡◌, refl, Bool, true, false, cond, not, ◌&&◌, ◌||◌, List, [], ◌∷◌, ℕ, ◌^◌, ◌≤◌, eqb, length}
-use Rattle.std.proofs.Common.{sym, ◌∙◌, true≢false, arith, eqb-true, eq-eqb, ne_eqb}
+use Rattle.std.proofs.Common.{sym, subst, ◌∙◌, true≢false, arith, eqb-true, eq-eqb, ne_eqb}
 use Rattle.std.proofs.lemmas.Bool.{false≢true, eqb-false, not-true}
 use Rattle.carv_area.specs.laws.Table
 use Rattle.carv_area.specs.Table.{Row, at, alter, erase, Rising}
@@ -37,7 +37,9 @@ module _ (time : ℕ) (m : List (Row Thread)) where
       let r' = renew_for time (thread m i).budget r in
       test (eligible i r)
       (λ a. rw (a, eq-eqb i i refl))
-      (λ a. rw a (or_true (eqb i (choose time m q r').next) (choose_in q r' (rw a at h))))
+      (λ a. let e : (choose time m (i ∷ q) r).next ≡ (choose time m q r').next = rw a in
+      let P : ℕ → Type 0 = λ n. eqb i n || member n q ≡ true in
+      subst P (sym e) (or_true (eqb i (choose time m q r').next) (choose_in q r' (rw a at h))))
 
   pub choose_has : (q : List ℕ) (r : Registry) → eqb (choose time m q r).next idle ≡ false → has m (choose time m q r).next ≡ true
   choose_has [] r h = absurd (true≢false h)

@@ -1,0 +1,9 @@
+-- `carv_register_image::step` meets its contract. Assumes nothing.
+use borrow.Author.Rules.{rules}
+use mathlib.Core.Path.{◌∙◌}
+use Rattle.carv_register_image.specs.laws.Image.{step_is}
+use Rattle.carv_register_image.proofs.step.Goals as goal
+
+pub returns : goal.returns
+returns c =
+    c.write_eight.ensures ∙ step_is c.args.k c.requires.le_k.0 c.requires.le_k.1 c.args.image.now c.requires.fact

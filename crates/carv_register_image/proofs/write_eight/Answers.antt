@@ -1,0 +1,11 @@
+-- `carv_register_image::write_eight` meets its contract. Assumes nothing.
+use borrow.Author.Rules.{rules}
+use native.Mathlib.Omega.{arith}
+use Rattle.carv_register_image.specs.laws.Image.{written}
+use Rattle.carv_register_image.proofs.write_eight.Goals as goal
+
+pub returns : goal.returns
+returns c =
+    written c.args.k c.requires.le_k.0 c.requires.le_k.1 c.args.image.now c.requires.image_len c.put.new.a (search rules)
+    (λ j. omega (arith, c.slice_known-1.given j)) (λ j. omega (arith, c.slice_known-2-1.given j))
+    _ _ (omega arith) c.requires.word_value c.put.ensures
