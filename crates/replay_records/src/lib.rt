@@ -7,7 +7,9 @@
 ghost use Rattle.std.specs.Prelude.{◌≡◌, ◌/◌, ◌≤◌, ◌<◌, length, drop};
 ghost use Rattle.replay_records.specs.Tally.{block_bytes, cut, started, added, Room};
 
-// The bytes of the buffer that a block is read into, `io::large_buffer`.
+use std::io::Read;
+
+// The bytes of the buffer that a block is read into.
 const BUFFER_BYTES: usize = 65_536;
 
 // What the blocks so far give, and how many more may come. A proved loop has to end, and nothing says that the input does. So the
@@ -39,16 +41,32 @@ fn block_bytes(size: usize) -> usize
     BUFFER_BYTES / size * size
 }
 
-// Reads a block of records of `size` bytes to the start of buf and says how many bytes it has. A read that fails counts as the end
-// of the input.
-pub fn read_block(buf: &mut [u8], size: usize) -> usize
+// Reads until buf is full, the input ends or a read fails, and says how many bytes it put at the start of buf. On an empty buf it makes
+// no call.
+fn read_full<R: Read>(input: &mut R, buf: &mut [u8]) -> usize
+    ensures { result ≤ length buf.new }
+{
+    let mut done = 0;
+    while done < buf.len() {
+        match input.read(&mut buf[done..]) {
+            Ok(0) => break,
+            Ok(n) => done += n,
+            Err(_) => break,
+        }
+    }
+    done
+}
+
+// Reads a block of records of `size` bytes from the input to the start of buf and says how many bytes it has. A read that fails counts
+// as the end of the input.
+pub fn read_block<R: Read>(input: &mut R, buf: &mut [u8], size: usize) -> usize
     requires size_nonzero { 0 < size }
     requires buf_len { length buf.old ≡ 65_536 }
     ensures upper_bound { (result ≤ 65_536) × (result ≤ block_bytes size) }
     ensures buf_unchanged { drop (block_bytes size) buf.new ≡ drop (block_bytes size) buf.old }
 {
     let most = block_bytes(size);
-    io::read_full(libc::STDIN_FILENO, &mut buf[..most])
+    read_full(input, &mut buf[..most])
 }
 
 // 1 where n bytes end inside a record of `size` bytes.

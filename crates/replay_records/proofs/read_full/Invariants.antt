@@ -1,0 +1,9 @@
+-- `replay_records::read_full`: the bytes that were read are within the buffer. The measure is the bytes that are left.
+use Rattle.std.proofs.Common.{◌-◌, ◌≤◌, length}
+use Rattle.replay_records.proofs.read_full.Given as goal
+
+abbrev pub invariant-loop-done : goal.invariant-loop-done
+invariant-loop-done g l = l.done ≤ length l.buf
+
+abbrev pub decreases-loop-done : goal.decreases-loop-done
+decreases-loop-done g l = length l.buf - l.done
