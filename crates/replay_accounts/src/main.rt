@@ -13,6 +13,8 @@ mod replay;
 use record::{call_at, reply_at};
 use replay::matches;
 use replay_records::Tally;
+use std::io;
+use std::io::Read;
 
 const RECORD_WORDS: usize = 34;
 
@@ -36,29 +38,28 @@ fn differences(buf: &[u8], n: usize) -> u64
 }
 
 // Reads and replays a block more.
-fn next_block(tally: Tally) -> Tally
+fn next_block<R: Read>(input: &mut R, tally: Tally) -> Tally
     requires { Room tally × (0 < tally.blocks) }
     ensures counted { Counted 272 Differ tally result }
     ensures room { Room result × (result.blocks < tally.blocks) }
 {
-    let mut buf = io::large_buffer();
-    let n = replay_records::read_block(&mut buf, RECORD_BYTES);
+    let mut buf = [0; 65_536];
+    let n = replay_records::read_block(input, &mut buf, RECORD_BYTES);
     let different = differences(&buf, n / RECORD_BYTES);
     replay_records::add(tally, n, RECORD_BYTES, different)
 }
 
-fn replay_all() -> Tally {
+fn replay_all<R: Read>(input: &mut R) -> Tally {
     let mut tally = replay_records::start();
     while tally.blocks > 0 {
-        tally = next_block(tally);
+        tally = next_block(input, tally);
     }
     tally
 }
 
-fn main() {
-    let tally = replay_all();
-    io::print_decimal(libc::STDOUT_FILENO, tally.calls);
-    io::write_all(libc::STDOUT_FILENO, b" calls, ");
-    io::print_decimal(libc::STDOUT_FILENO, tally.differences);
-    io::write_all(libc::STDOUT_FILENO, b" differences\n");
+fn main(rt: HostRuntime) -> io::Result<()> {
+    let tally = replay_all(&mut rt.stdin());
+    let calls = tally.calls;
+    let differences = tally.differences;
+    println!(rt; "{calls} calls, {differences} differences")
 }
