@@ -1,6 +1,6 @@
 -- `carv_objects::account` meets its contract. Assumes nothing.
 use borrow.Author.Rules.{rules}
-use Rattle.carv_objects.specs.laws.Entry.{entry_refused, entry_sound, entry_served}
+use Rattle.carv_objects.specs.Laws.Entry.{entry_refused, entry_sound, entry_served}
 use Rattle.carv_objects.proofs.account.Statement.{statement}
 use Rattle.carv_objects.proofs.account.Tie as tie
 

@@ -1,6 +1,6 @@
 -- `carv_objects::create_budget` meets its contract. Assumes nothing.
 use borrow.Author.Rules.{rules}
-use Rattle.carv_objects.specs.laws.Entry.{entry_refused, entry_sound, entry_served}
+use Rattle.carv_objects.specs.Laws.Entry.{entry_refused, entry_sound, entry_served}
 use Rattle.carv_objects.proofs.create_budget.Statement.{statement}
 use Rattle.carv_objects.proofs.create_budget.Tie as tie
 

@@ -1,6 +1,6 @@
 -- `carv_objects::accounts::carve` meets its contract. Assumes nothing.
 use borrow.Author.Rules.{rules}
-use Rattle.carv_objects.specs.laws.Booked.{carves_yes, carves_no}
+use Rattle.carv_objects.specs.Laws.Booked.{carves_yes, carves_no}
 use Rattle.carv_objects.proofs.accounts.carve.Goals as goal
 
 pub returns-then-is_done : goal.returns-then-is_done

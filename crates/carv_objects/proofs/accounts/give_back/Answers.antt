@@ -1,6 +1,6 @@
 -- `carv_objects::accounts::give_back` meets its contract. Assumes nothing.
 use borrow.Author.Rules.{rules}
-use Rattle.carv_objects.specs.laws.Booked.{return_is}
+use Rattle.carv_objects.specs.Laws.Booked.{return_is}
 use Rattle.carv_objects.proofs.accounts.give_back.Goals as goal
 
 pub renew-renewed-requires : goal.renew-renewed-requires

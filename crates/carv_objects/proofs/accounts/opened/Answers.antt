@@ -1,6 +1,6 @@
 -- `carv_objects::accounts::opened` meets its contract. Assumes nothing.
 use borrow.Author.Rules.{rules}
-use Rattle.carv_objects.specs.laws.Booked.{open_books}
+use Rattle.carv_objects.specs.Laws.Booked.{open_books}
 use Rattle.carv_objects.proofs.accounts.opened.Goals as goal
 
 pub returns : goal.returns

@@ -1,6 +1,6 @@
 -- `carv_objects::accounts::spend` meets its contract. Assumes nothing.
 use borrow.Author.Rules.{rules}
-use Rattle.carv_objects.specs.laws.Booked.{spend_books}
+use Rattle.carv_objects.specs.Laws.Booked.{spend_books}
 use Rattle.carv_objects.proofs.accounts.spend.Goals as goal
 
 pub returns : goal.returns

@@ -1,6 +1,6 @@
 -- `carv_objects::accounts::spend_most` meets its contract. Assumes nothing.
 use borrow.Author.Rules.{rules}
-use Rattle.carv_objects.specs.laws.Cpu.{spends_most}
+use Rattle.carv_objects.specs.Laws.Cpu.{spends_most}
 use Rattle.carv_objects.proofs.accounts.spend_most.Goals as goal
 
 pub returns : goal.returns

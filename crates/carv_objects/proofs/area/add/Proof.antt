@@ -1,8 +1,8 @@
 -- `carv_objects::area::add` meets its contract. Assumes nothing.
 use borrow.Author.Rules.{rules}
 use native.Mathlib.Omega.{arith}
-use Rattle.carv_objects.specs.laws.Formed.{leaves_as}
-use Rattle.carv_objects.specs.laws.AreaSteps.{next_set, room_next, room_place, add_raised, add_place, add_rising, add_same}
+use Rattle.carv_objects.specs.Laws.Formed.{leaves_as}
+use Rattle.carv_objects.specs.Laws.AreaSteps.{next_set, room_next, room_place, add_raised, add_place, add_rising, add_same}
 use Rattle.carv_objects.specs.Area.{decode}
 use Rattle.carv_objects.proofs.area.add.Statement.{statement}
 use Rattle.carv_objects.proofs.area.add.Tie as tie

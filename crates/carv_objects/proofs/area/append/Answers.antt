@@ -3,8 +3,8 @@ use borrow.Author.Rules.{rules}
 use native.Mathlib.Omega.{arith}
 use mathlib.Core.Path.{◌∙◌}
 use Rattle.carv_objects.specs.Area.{table}
-use Rattle.carv_objects.specs.laws.Formed.{length_table}
-use Rattle.carv_objects.specs.laws.AreaSteps.{entry_appended}
+use Rattle.carv_objects.specs.Laws.Formed.{length_table}
+use Rattle.carv_objects.specs.Laws.AreaSteps.{entry_appended}
 use Rattle.carv_objects.proofs.area.append.Goals as goal
 
 pub append_entry-requires : goal.append_entry-requires

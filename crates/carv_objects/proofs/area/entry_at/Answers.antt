@@ -1,7 +1,7 @@
 -- `carv_objects::area::entry_at` meets its contract. Assumes nothing.
 use borrow.Author.Rules.{rules}
 use Rattle.carv_objects.specs.Area.{table}
-use Rattle.carv_objects.specs.laws.AreaSteps.{entry_room, entry_is}
+use Rattle.carv_objects.specs.Laws.AreaSteps.{entry_room, entry_is}
 use Rattle.carv_objects.proofs.area.entry_at.Goals as goal
 
 pub read_entry-requires : goal.read_entry-requires

@@ -1,7 +1,7 @@
 -- `carv_objects::area::set_account` meets its contract. Assumes nothing.
 use borrow.Author.Rules.{rules}
-use Rattle.carv_objects.specs.laws.Formed.{leaves_as}
-use Rattle.carv_objects.specs.laws.AreaSteps.{account_set}
+use Rattle.carv_objects.specs.Laws.Formed.{leaves_as}
+use Rattle.carv_objects.specs.Laws.AreaSteps.{account_set}
 use Rattle.carv_objects.proofs.area.set_account.Statement.{statement}
 use Rattle.carv_objects.proofs.area.set_account.Tie as tie
 

@@ -2,8 +2,8 @@
 use borrow.Author.Rules.{rules}
 use mathlib.Core.Path.{◌∙◌}
 use Rattle.carv_objects.specs.Area.{table}
-use Rattle.carv_objects.specs.laws.Formed.{length_table}
-use Rattle.carv_objects.specs.laws.AreaSteps.{entry_room, entry_set}
+use Rattle.carv_objects.specs.Laws.Formed.{length_table}
+use Rattle.carv_objects.specs.Laws.AreaSteps.{entry_room, entry_set}
 use Rattle.carv_objects.proofs.area.set_entry.Goals as goal
 
 pub write_entry-requires : goal.write_entry-requires

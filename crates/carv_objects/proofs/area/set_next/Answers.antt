@@ -2,8 +2,8 @@
 use borrow.Author.Rules.{rules}
 use mathlib.Core.Path.{◌∙◌}
 use Rattle.carv_objects.specs.Area.{head}
-use Rattle.carv_objects.specs.laws.Formed.{length_head}
-use Rattle.carv_objects.specs.laws.AreaSteps.{next_put}
+use Rattle.carv_objects.specs.Laws.Formed.{length_head}
+use Rattle.carv_objects.specs.Laws.AreaSteps.{next_put}
 use Rattle.carv_objects.proofs.area.set_next.Goals as goal
 
 pub returns : goal.returns

@@ -2,8 +2,8 @@
 use borrow.Author.Rules.{rules}
 use mathlib.Core.Path.{◌∙◌}
 use Rattle.carv_objects.specs.Area.{table}
-use Rattle.carv_objects.specs.laws.Formed.{length_table}
-use Rattle.carv_objects.specs.laws.AreaSteps.{remove_room, remove_within, entry_removed}
+use Rattle.carv_objects.specs.Laws.Formed.{length_table}
+use Rattle.carv_objects.specs.Laws.AreaSteps.{remove_room, remove_within, entry_removed}
 use Rattle.carv_objects.proofs.area.take_out.Goals as goal
 
 pub remove_row-requires : goal.remove_row-requires

@@ -4,10 +4,10 @@ use mathlib.Core.Path.{refl, sym, ap, ◌∙◌}
 use mathlib.Core.Option.{some}
 use Rattle.carv_budget.specs.declared.Account.{Account}
 use Rattle.carv_objects_spec.specs.Reply.{of_account}
-use Rattle.carv_objects.specs.laws.Formed.{unchanged}
-use Rattle.carv_objects.specs.laws.AreaSteps.{budget_here, budget_gone}
-use Rattle.carv_objects.specs.laws.Calls.{area_sound, area_formed, refused, answered, account_here}
-use Rattle.carv_objects_spec.specs.laws.Questions.{read_account_missing, read_account_done}
+use Rattle.carv_objects.specs.Laws.Formed.{unchanged}
+use Rattle.carv_objects.specs.Laws.AreaSteps.{budget_here, budget_gone}
+use Rattle.carv_objects.specs.Laws.Calls.{area_sound, area_formed, refused, answered, account_here}
+use Rattle.carv_objects_spec.proofs.Laws.Questions.{read_account_missing, read_account_done}
 use Rattle.carv_objects.specs.Area.{decode}
 use Rattle.carv_objects.proofs.calls.account.Statement.{statement}
 use Rattle.carv_objects.proofs.calls.account.Tie as tie

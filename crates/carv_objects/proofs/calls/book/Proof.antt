@@ -1,8 +1,8 @@
 -- `carv_objects::calls::book` meets its contract. Assumes nothing.
 use borrow.Author.Rules.{rules}
 use mathlib.Core.Path.{refl}
-use Rattle.carv_objects.specs.laws.Formed.{leaves_as}
-use Rattle.carv_objects.specs.laws.CallSteps.{moved_here, moved_charge}
+use Rattle.carv_objects.specs.Laws.Formed.{leaves_as}
+use Rattle.carv_objects.specs.Laws.CallSteps.{moved_here, moved_charge}
 use Rattle.carv_objects.specs.Area.{decode}
 use Rattle.carv_objects.proofs.calls.book.Statement.{statement}
 use Rattle.carv_objects.proofs.calls.book.Tie as tie

@@ -1,11 +1,11 @@
 -- `carv_objects::calls::charge_cpu` meets its contract. Assumes nothing.
 use borrow.Author.Rules.{rules}
 use mathlib.Core.Path.{refl}
-use Rattle.carv_objects.specs.laws.Formed.{leaves_as}
-use Rattle.carv_objects.specs.laws.AreaSteps.{budget_here, budget_gone}
-use Rattle.carv_objects.specs.laws.Calls.{area_sound, area_formed, account_at_sound, refused, refused_after, answered, booked_yes, booked_no, spend_left, spent_by, kept_at}
-use Rattle.carv_objects_spec.specs.laws.Questions.{charge_cpu_missing, charge_cpu_above, charge_cpu_done}
-use Rattle.carv_objects_spec.specs.laws.Kept.{charge_cpu_kept}
+use Rattle.carv_objects.specs.Laws.Formed.{leaves_as}
+use Rattle.carv_objects.specs.Laws.AreaSteps.{budget_here, budget_gone}
+use Rattle.carv_objects.specs.Laws.Calls.{area_sound, area_formed, account_at_sound, refused, refused_after, answered, booked_yes, booked_no, spend_left, spent_by, kept_at}
+use Rattle.carv_objects_spec.proofs.Laws.Questions.{charge_cpu_missing, charge_cpu_above, charge_cpu_done}
+use Rattle.carv_objects_spec.proofs.Laws.Kept.{charge_cpu_kept}
 use Rattle.carv_objects.specs.Area.{decode}
 use Rattle.carv_objects.proofs.calls.charge_cpu.Statement.{statement}
 use Rattle.carv_objects.proofs.calls.charge_cpu.Tie as tie

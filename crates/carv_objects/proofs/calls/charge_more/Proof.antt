@@ -1,10 +1,10 @@
 -- `carv_objects::calls::charge_more` meets its contract. Assumes nothing.
 use borrow.Author.Rules.{rules}
-use Rattle.carv_objects.specs.laws.AreaSteps.{located_here, located_gone, gone_has}
-use Rattle.carv_objects.specs.laws.Calls.{area_sound, area_formed, refused, booked_yes, booked_no}
-use Rattle.carv_objects_spec.specs.laws.Questions.{charge_more_missing}
+use Rattle.carv_objects.specs.Laws.AreaSteps.{located_here, located_gone, gone_has}
+use Rattle.carv_objects.specs.Laws.Calls.{area_sound, area_formed, refused, booked_yes, booked_no}
+use Rattle.carv_objects_spec.proofs.Laws.Questions.{charge_more_missing}
 use native.Mathlib.Omega.{arith}
-use Rattle.carv_objects.specs.laws.CallSteps.{payer_has, payer_sound, charge_fits, charge_more_refused, charge_more_served}
+use Rattle.carv_objects.specs.Laws.CallSteps.{payer_has, payer_sound, charge_fits, charge_more_refused, charge_more_served}
 use Rattle.carv_objects.specs.Area.{decode}
 use Rattle.carv_objects.proofs.calls.charge_more.Statement.{statement}
 use Rattle.carv_objects.proofs.calls.charge_more.Tie as tie

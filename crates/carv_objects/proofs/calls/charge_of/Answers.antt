@@ -4,10 +4,10 @@ use mathlib.Core.Path.{refl, sym, ap, ◌∙◌}
 use mathlib.Core.Option.{some}
 use Rattle.carv_objects_spec.specs.declared.Entry.{Entry}
 use Rattle.carv_objects_spec.specs.Reply.{charge}
-use Rattle.carv_objects.specs.laws.Formed.{unchanged}
-use Rattle.carv_objects.specs.laws.AreaSteps.{located_here, located_gone, here_has, gone_has, here_entry}
-use Rattle.carv_objects.specs.laws.Calls.{area_sound, area_formed, refused, answered}
-use Rattle.carv_objects_spec.specs.laws.Questions.{charge_of_missing, charge_of_done}
+use Rattle.carv_objects.specs.Laws.Formed.{unchanged}
+use Rattle.carv_objects.specs.Laws.AreaSteps.{located_here, located_gone, here_has, gone_has, here_entry}
+use Rattle.carv_objects.specs.Laws.Calls.{area_sound, area_formed, refused, answered}
+use Rattle.carv_objects_spec.proofs.Laws.Questions.{charge_of_missing, charge_of_done}
 use Rattle.carv_objects.specs.Area.{decode}
 use Rattle.carv_objects.proofs.calls.charge_of.Goals as goal
 

@@ -4,14 +4,14 @@ use mathlib.Core.Path.{ap, sym, ◌∙◌, subst}
 use mathlib.Core.Bool.{Bool, true, false, not, ◌||◌}
 use Prim.Native.Nat.{ℕ}
 use Rattle.carv_objects.proofs.Rules.{said_not, said_so}
-use Rattle.carv_objects.specs.laws.Formed.{leaves_as}
+use Rattle.carv_objects.specs.Laws.Formed.{leaves_as}
 use Rattle.carv_objects.specs.declared.Answer.{Answer}
 use Rattle.carv_objects.specs.Answer.{number, value}
-use Rattle.carv_objects.specs.laws.Kinds.{named_listed, named_unlisted, listed_code, bytes_named, creatable_named, backing_named}
-use Rattle.carv_objects.specs.laws.AreaSteps.{budget_here, budget_gone}
-use Rattle.carv_objects.specs.laws.Calls.{area_sound, area_formed, account_at_sound, refused, answered, booked_yes, booked_no, free_of, stored_of, kept_at}
-use Rattle.carv_objects_spec.specs.laws.Questions.{create_unlisted, create_full, create_payer, create_cover, create_method, create_backing, create_done}
-use Rattle.carv_objects_spec.specs.laws.Kept.{create_kept}
+use Rattle.carv_objects.specs.Laws.Kinds.{named_listed, named_unlisted, listed_code, bytes_named, creatable_named, backing_named}
+use Rattle.carv_objects.specs.Laws.AreaSteps.{budget_here, budget_gone}
+use Rattle.carv_objects.specs.Laws.Calls.{area_sound, area_formed, account_at_sound, refused, answered, booked_yes, booked_no, free_of, stored_of, kept_at}
+use Rattle.carv_objects_spec.proofs.Laws.Questions.{create_unlisted, create_full, create_payer, create_cover, create_method, create_backing, create_done}
+use Rattle.carv_objects_spec.proofs.Laws.Kept.{create_kept}
 use Rattle.carv_objects.specs.Area.{decode}
 use Rattle.carv_objects.proofs.calls.create.Statement.{statement}
 use Rattle.carv_objects.proofs.calls.create.Tie as tie

@@ -7,7 +7,7 @@ use lib.ListN.{length, drop}
 use borrow.Author.Rules.{rules}
 use Rattle.carv_objects_spec.specs.Registry.{pays_in, pays_for}
 use Rattle.carv_objects.specs.Area.{decode}
-use Rattle.carv_objects.specs.laws.CallSteps.{pays_ends, pays_found, pays_on}
+use Rattle.carv_objects.specs.Laws.CallSteps.{pays_ends, pays_found, pays_on}
 use Rattle.carv_objects.proofs.calls.pays.Given as goal
 
 abbrev pub invariant-loop-i : goal.invariant-loop-i

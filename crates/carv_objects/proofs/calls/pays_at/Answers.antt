@@ -1,7 +1,7 @@
 -- `carv_objects::calls::pays_at` meets its contract. Assumes nothing.
 use borrow.Author.Rules.{rules}
 use mathlib.Core.Path.{sym, ◌∙◌}
-use Rattle.carv_objects.specs.laws.CallSteps.{pays_self, pays_other, pays_there}
+use Rattle.carv_objects.specs.Laws.CallSteps.{pays_self, pays_other, pays_there}
 use Rattle.carv_objects.proofs.calls.pays_at.Goals as goal
 
 pub returns-then-id_at-id : goal.returns-then-id_at-id

@@ -3,7 +3,7 @@ use mathlib.Core.Path.{refl, sym, ap, ◌∙◌}
 use mathlib.Core.Bool.{Bool}
 use mathlib.Core.Option.{some}
 use Rattle.carv_objects_spec.specs.Reply.{pays}
-use Rattle.carv_objects.specs.laws.Calls.{area_formed, read_serves}
+use Rattle.carv_objects.specs.Laws.Calls.{area_formed, read_serves}
 use Rattle.carv_objects.proofs.calls.pays_for_anything.Goals as goal
 
 pub pays-requires : goal.pays-requires

@@ -3,15 +3,15 @@ use borrow.Author.Rules.{rules}
 use mathlib.Core.Path.{ap, ◌∙◌}
 use mathlib.Core.Option.{Option, some}
 use mathlib.Core.Bool.{Bool}
-use Rattle.carv_objects.specs.laws.Formed.{leaves_as}
+use Rattle.carv_objects.specs.Laws.Formed.{leaves_as}
 use Rattle.carv_objects.specs.declared.Answer.{Answer}
 use Rattle.carv_objects_spec.specs.Reply.{Value, renewed}
 use Rattle.carv_objects.specs.Answer.{number, value}
-use Rattle.carv_objects.specs.laws.AreaSteps.{budget_here, budget_gone}
-use Rattle.carv_objects.specs.laws.Booked.{renew_is, refill_answer}
-use Rattle.carv_objects.specs.laws.Calls.{area_sound, area_formed, account_at_sound, refused, answered, renewed_by, due_here, kept_at}
-use Rattle.carv_objects_spec.specs.laws.Questions.{refill_missing, refill_done}
-use Rattle.carv_objects_spec.specs.laws.Kept.{refill_kept}
+use Rattle.carv_objects.specs.Laws.AreaSteps.{budget_here, budget_gone}
+use Rattle.carv_objects.specs.Laws.Booked.{renew_is, refill_answer}
+use Rattle.carv_objects.specs.Laws.Calls.{area_sound, area_formed, account_at_sound, refused, answered, renewed_by, due_here, kept_at}
+use Rattle.carv_objects_spec.proofs.Laws.Questions.{refill_missing, refill_done}
+use Rattle.carv_objects_spec.proofs.Laws.Kept.{refill_kept}
 use Rattle.carv_objects.specs.Area.{decode}
 use Rattle.carv_objects.proofs.calls.refill.Statement.{statement}
 use Rattle.carv_objects.proofs.calls.refill.Tie as tie

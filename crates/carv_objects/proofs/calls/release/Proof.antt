@@ -1,8 +1,8 @@
 -- `carv_objects::calls::release` meets its contract. Assumes nothing.
 use borrow.Author.Rules.{rules}
 use mathlib.Core.Path.{refl}
-use Rattle.carv_objects.specs.laws.Formed.{leaves_as}
-use Rattle.carv_objects.specs.laws.CallSteps.{moved_within, moved_out}
+use Rattle.carv_objects.specs.Laws.Formed.{leaves_as}
+use Rattle.carv_objects.specs.Laws.CallSteps.{moved_within, moved_out}
 use Rattle.carv_objects.specs.Area.{decode}
 use Rattle.carv_objects.proofs.calls.release.Statement.{statement}
 use Rattle.carv_objects.proofs.calls.release.Tie as tie

@@ -1,11 +1,11 @@
 -- `carv_objects::calls::remove` meets its contract. Assumes nothing.
 use borrow.Author.Rules.{rules}
 use mathlib.Core.Path.{sym, ◌∙◌}
-use Rattle.carv_objects.specs.laws.AreaSteps.{located_here, located_gone, gone_has, here_has}
-use Rattle.carv_objects.specs.laws.Calls.{area_sound, area_formed, refused}
-use Rattle.carv_objects_spec.specs.laws.Questions.{remove_missing, remove_root}
+use Rattle.carv_objects.specs.Laws.AreaSteps.{located_here, located_gone, gone_has, here_has}
+use Rattle.carv_objects.specs.Laws.Calls.{area_sound, area_formed, refused}
+use Rattle.carv_objects_spec.proofs.Laws.Questions.{remove_missing, remove_root}
 use native.Mathlib.Omega.{arith}
-use Rattle.carv_objects.specs.laws.CallSteps.{payer_has, payer_sound, child_sound, credit_asks, returned_asks, remove_plain, remove_in_use, remove_returnable, remove_served}
+use Rattle.carv_objects.specs.Laws.CallSteps.{payer_has, payer_sound, child_sound, credit_asks, returned_asks, remove_plain, remove_in_use, remove_returnable, remove_served}
 use Rattle.carv_objects.specs.Area.{decode}
 use Rattle.carv_objects.proofs.calls.remove.Statement.{statement}
 use Rattle.carv_objects.proofs.calls.remove.Tie as tie

@@ -1,8 +1,8 @@
 -- `carv_objects::calls::renew_and_refuse` meets its contract. Assumes nothing.
 use borrow.Author.Rules.{rules}
 use mathlib.Core.Path.{refl}
-use Rattle.carv_objects.specs.laws.Formed.{leaves_as}
-use Rattle.carv_objects.specs.laws.Calls.{renewed_by}
+use Rattle.carv_objects.specs.Laws.Formed.{leaves_as}
+use Rattle.carv_objects.specs.Laws.Calls.{renewed_by}
 use Rattle.carv_objects.specs.Area.{decode}
 use Rattle.carv_objects.proofs.calls.renew_and_refuse.Statement.{statement}
 use Rattle.carv_objects.proofs.calls.renew_and_refuse.Tie as tie

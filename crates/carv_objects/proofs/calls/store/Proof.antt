@@ -1,7 +1,7 @@
 -- `carv_objects::calls::store` meets its contract. Assumes nothing.
 use borrow.Author.Rules.{rules}
-use Rattle.carv_objects.specs.laws.Formed.{leaves_as}
-use Rattle.carv_objects.specs.laws.Calls.{store_room, store_next, store_same}
+use Rattle.carv_objects.specs.Laws.Formed.{leaves_as}
+use Rattle.carv_objects.specs.Laws.Calls.{store_room, store_next, store_same}
 use Rattle.carv_objects.specs.Area.{decode}
 use Rattle.carv_objects.proofs.calls.store.Statement.{statement}
 use Rattle.carv_objects.proofs.calls.store.Tie as tie

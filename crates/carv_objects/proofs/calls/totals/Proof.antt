@@ -4,10 +4,10 @@ use mathlib.Core.Path.{refl, sym, ap, ◌∙◌}
 use mathlib.Core.Option.{some}
 use Rattle.carv_objects_spec.specs.declared.Totals.{Totals}
 use Rattle.carv_objects_spec.specs.Reply.{of_totals}
-use Rattle.carv_objects.specs.laws.Formed.{unchanged}
-use Rattle.carv_objects.specs.laws.AreaSteps.{budget_here, budget_gone}
-use Rattle.carv_objects.specs.laws.Calls.{area_sound, area_formed, refused, answered}
-use Rattle.carv_objects_spec.specs.laws.Questions.{read_totals_missing, read_totals_done}
+use Rattle.carv_objects.specs.Laws.Formed.{unchanged}
+use Rattle.carv_objects.specs.Laws.AreaSteps.{budget_here, budget_gone}
+use Rattle.carv_objects.specs.Laws.Calls.{area_sound, area_formed, refused, answered}
+use Rattle.carv_objects_spec.proofs.Laws.Questions.{read_totals_missing, read_totals_done}
 use Rattle.carv_objects.specs.Area.{decode}
 use Rattle.carv_objects.proofs.calls.totals.Statement.{statement}
 use Rattle.carv_objects.proofs.calls.totals.Tie as tie

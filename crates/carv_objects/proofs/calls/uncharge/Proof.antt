@@ -1,9 +1,9 @@
 -- `carv_objects::calls::uncharge` meets its contract. Assumes nothing.
 use borrow.Author.Rules.{rules}
-use Rattle.carv_objects.specs.laws.AreaSteps.{located_here, located_gone, gone_has}
-use Rattle.carv_objects.specs.laws.Calls.{area_sound, area_formed, refused}
-use Rattle.carv_objects_spec.specs.laws.Questions.{uncharge_missing}
-use Rattle.carv_objects.specs.laws.CallSteps.{payer_has, credit_asks, uncharge_refused, uncharge_served}
+use Rattle.carv_objects.specs.Laws.AreaSteps.{located_here, located_gone, gone_has}
+use Rattle.carv_objects.specs.Laws.Calls.{area_sound, area_formed, refused}
+use Rattle.carv_objects_spec.proofs.Laws.Questions.{uncharge_missing}
+use Rattle.carv_objects.specs.Laws.CallSteps.{payer_has, credit_asks, uncharge_refused, uncharge_served}
 use Rattle.carv_objects.specs.Area.{decode}
 use Rattle.carv_objects.proofs.calls.uncharge.Statement.{statement}
 use Rattle.carv_objects.proofs.calls.uncharge.Tie as tie

@@ -1,8 +1,8 @@
 -- `carv_objects::cpu::charge_most` meets its contract. Assumes nothing.
 use borrow.Author.Rules.{rules}
-use Rattle.carv_objects.specs.laws.AreaSteps.{budget_here, budget_gone}
-use Rattle.carv_objects.specs.laws.Calls.{area_formed, account_at_sound}
-use Rattle.carv_objects.specs.laws.Cpu.{not_charged, charged_is, charges_most}
+use Rattle.carv_objects.specs.Laws.AreaSteps.{budget_here, budget_gone}
+use Rattle.carv_objects.specs.Laws.Calls.{area_formed, account_at_sound}
+use Rattle.carv_objects.specs.Laws.Cpu.{not_charged, charged_is, charges_most}
 use Rattle.carv_objects.specs.Area.{decode}
 use Rattle.carv_objects.proofs.cpu.charge_most.Statement.{statement}
 use Rattle.carv_objects.proofs.cpu.charge_most.Tie as tie

@@ -1,8 +1,8 @@
 -- `carv_objects::cpu::renew_and_test` meets its contract. Assumes nothing.
 use borrow.Author.Rules.{rules}
-use Rattle.carv_objects.specs.laws.AreaSteps.{budget_here, budget_gone}
-use Rattle.carv_objects.specs.laws.Calls.{area_formed, account_at_sound}
-use Rattle.carv_objects.specs.laws.Cpu.{not_renewed, cpu_none, cpu_some, renewed_is, renews}
+use Rattle.carv_objects.specs.Laws.AreaSteps.{budget_here, budget_gone}
+use Rattle.carv_objects.specs.Laws.Calls.{area_formed, account_at_sound}
+use Rattle.carv_objects.specs.Laws.Cpu.{not_renewed, cpu_none, cpu_some, renewed_is, renews}
 use Rattle.carv_objects.specs.Area.{decode}
 use Rattle.carv_objects.proofs.cpu.renew_and_test.Statement.{statement}
 use Rattle.carv_objects.proofs.cpu.renew_and_test.Tie as tie

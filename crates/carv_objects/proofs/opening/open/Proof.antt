@@ -1,7 +1,7 @@
 -- `carv_objects::opening::open` meets its contract. Assumes nothing.
 use borrow.Author.Rules.{rules}
-use Rattle.carv_objects.specs.laws.Calls.{booked_yes, booked_no}
-use Rattle.carv_objects.specs.laws.Opening.{open_size, open_share, open_done}
+use Rattle.carv_objects.specs.Laws.Calls.{booked_yes, booked_no}
+use Rattle.carv_objects.specs.Laws.Opening.{open_size, open_share, open_done}
 use Rattle.carv_objects.proofs.opening.open.Statement.{statement}
 use Rattle.carv_objects.proofs.opening.open.Tie as tie
 

@@ -1,7 +1,7 @@
 -- `carv_objects::opening::start` meets its contract. Assumes nothing.
 use borrow.Author.Rules.{rules}
 use mathlib.Core.Path.{◌∙◌}
-use Rattle.carv_objects.specs.laws.Opening.{start_formed}
+use Rattle.carv_objects.specs.Laws.Opening.{start_formed}
 use Rattle.carv_objects.proofs.opening.start.Statement.{statement}
 use Rattle.carv_objects.proofs.opening.start.Tie as tie
 

@@ -1,8 +1,8 @@
 -- `carv_objects::opening::write_table` meets its contract. Assumes nothing.
 use borrow.Author.Rules.{rules}
 use mathlib.Core.Path.{◌∙◌}
-use Rattle.carv_objects.specs.laws.Formed.{length_table}
-use Rattle.carv_objects.specs.laws.Opening.{table_put}
+use Rattle.carv_objects.specs.Laws.Formed.{length_table}
+use Rattle.carv_objects.specs.Laws.Opening.{table_put}
 use Rattle.carv_objects.proofs.opening.write_table.Statement.{statement}
 use Rattle.carv_objects.proofs.opening.write_table.Tie as tie
 

@@ -1,6 +1,6 @@
 -- `carv_objects::rows::write_entry` meets its contract. Assumes nothing.
 use borrow.Author.Rules.{rules}
-use Rattle.carv_objects.specs.laws.Rows.{row_set}
+use Rattle.carv_objects.specs.Laws.Rows.{row_set}
 use Rattle.carv_objects.proofs.rows.write_entry.Goals as goal
 
 pub returns : goal.returns

@@ -1,7 +1,7 @@
--- `carv_objects::sound::is_sound` meets its contract: specs/laws/SoundBridge.antt. Assumes nothing.
+-- `carv_objects::sound::is_sound` meets its contract: specs/Laws/SoundBridge.antt. Assumes nothing.
 use native.Mathlib.Omega.{arith}
 use Rattle.carv_objects.specs.Area.{table}
-use Rattle.carv_objects.specs.laws.SoundBridge.{asked_size, asked}
+use Rattle.carv_objects.specs.Laws.SoundBridge.{asked_size, asked}
 use borrow.Author.Rules.{rules}
 use Rattle.carv_objects.proofs.sound.is_sound.Statement.{statement}
 use Rattle.carv_objects.proofs.sound.is_sound.Tie as tie

@@ -7,7 +7,7 @@ use Prim.Native.Nat.{◌-◌}
 use lib.ListN.{length, drop}
 use lib.Dec.{eqb}
 use Rattle.carv_area.specs.Zero.{all_zero}
-use Rattle.carv_area.specs.laws.Zero.{zero_more, zero_done}
+use Rattle.carv_area.specs.Laws.Zero.{zero_more, zero_done}
 use borrow.Author.Rules.{rules}
 use Rattle.carv_objects.proofs.sound.is_zero.Given as goal
 

@@ -4,9 +4,9 @@ use native.Mathlib.Omega.{arith}
 use mathlib.Core.Path.{◌≡◌, refl, ap}
 use Prim.Native.Nat.{ℕ, ◌-◌}
 use Rattle.carv_area.specs.Words.{words}
-use Rattle.carv_objects.specs.laws.SoundWalk.{id_at, entry_at}
-use Rattle.carv_objects.specs.laws.SoundPlace.{place_here, place_none}
-use Rattle.carv_objects.specs.laws.SoundTurn.{front_rise, rise_inj}
+use Rattle.carv_objects.specs.Laws.SoundWalk.{id_at, entry_at}
+use Rattle.carv_objects.specs.Laws.SoundPlace.{place_here, place_none}
+use Rattle.carv_objects.specs.Laws.SoundTurn.{front_rise, rise_inj}
 use Rattle.carv_objects.proofs.sound.owner.Statement.{statement}
 use Rattle.carv_objects.proofs.sound.owner.Tie as tie
 

@@ -4,7 +4,7 @@ use native.Mathlib.Omega.{arith}
 use mathlib.Core.Logic.{⊎_elim}
 use Prim.Native.Nat.{◌/◌}
 use Rattle.carv_area.specs.Words.{words}
-use Rattle.carv_objects.specs.laws.SoundPlace.{Near, near, near_up, near_down, near_past, near_other}
+use Rattle.carv_objects.specs.Laws.SoundPlace.{Near, near, near_up, near_down, near_past, near_other}
 use borrow.Author.Rules.{rules}
 use Rattle.carv_objects.proofs.sound.place.Goals as goal
 

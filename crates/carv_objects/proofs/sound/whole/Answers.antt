@@ -6,8 +6,8 @@ use Prim.Native.Nat.{◌≤◌, ◌-◌}
 use lib.ListN.{get_or}
 use borrow.Author.Tests.{not-true, not-false}
 use Rattle.carv_area.specs.Words.{words}
-use Rattle.carv_objects.specs.laws.SoundWalk.{Walk}
-use Rattle.carv_objects.specs.laws.SoundTurn.{walk_none, used_zero, memory_zero, cpu_zero, ended}
+use Rattle.carv_objects.specs.Laws.SoundWalk.{Walk}
+use Rattle.carv_objects.specs.Laws.SoundTurn.{walk_none, used_zero, memory_zero, cpu_zero, ended}
 use borrow.Author.Rules.{rules}
 use Rattle.carv_objects.proofs.sound.whole.Goals as goal
 

@@ -2,8 +2,8 @@
 use mathlib.Core.Path.{refl, sym, ◌∙◌}
 use native.Mathlib.Omega.{arith}
 use Rattle.carv_objects.specs.Area.{decode}
-use Rattle.carv_objects.specs.laws.Calls.{area_sound, area_formed}
-use Rattle.carv_objects.specs.laws.TotalSteps.{here_within, root_not_within, mark_within, mark_right, not_first, place_up}
+use Rattle.carv_objects.specs.Laws.Calls.{area_sound, area_formed}
+use Rattle.carv_objects.specs.Laws.TotalSteps.{here_within, root_not_within, mark_within, mark_right, not_first, place_up}
 use Prim.Native.Nat.{ℕ, ◌<◌}
 use borrow.Fn.Kinds.{In}
 use borrow.Fn.PlainCycle.{Measures, is, falls, and}

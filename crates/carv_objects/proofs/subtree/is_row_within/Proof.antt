@@ -1,6 +1,6 @@
 -- `carv_objects::subtree::is_row_within` meets its contract. Assumes nothing.
-use Rattle.carv_objects.specs.laws.Calls.{area_sound, area_formed}
-use Rattle.carv_objects.specs.laws.TotalSteps.{row_here, row_payer, row_by_payer}
+use Rattle.carv_objects.specs.Laws.Calls.{area_sound, area_formed}
+use Rattle.carv_objects.specs.Laws.TotalSteps.{row_here, row_payer, row_by_payer}
 use Rattle.carv_objects.specs.Area.{decode}
 use Rattle.carv_objects.proofs.subtree.is_row_within.Statement.{statement}
 use Rattle.carv_objects.proofs.subtree.is_row_within.Tie as tie

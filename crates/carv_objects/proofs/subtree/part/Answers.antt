@@ -1,6 +1,6 @@
 -- `carv_objects::subtree::part` meets its contract. Assumes nothing.
-use Rattle.carv_objects.specs.laws.Calls.{area_sound, area_formed}
-use Rattle.carv_objects.specs.laws.TotalSteps.{not_counted, counted, place_sound}
+use Rattle.carv_objects.specs.Laws.Calls.{area_sound, area_formed}
+use Rattle.carv_objects.specs.Laws.TotalSteps.{not_counted, counted, place_sound}
 use Rattle.carv_objects.specs.Area.{decode}
 use Rattle.carv_objects.proofs.subtree.part.Goals as goal
 

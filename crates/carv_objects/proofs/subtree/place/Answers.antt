@@ -1,7 +1,7 @@
 -- `carv_objects::subtree::place` meets its contract. Assumes nothing.
 use borrow.Author.Rules.{rules}
-use Rattle.carv_objects.specs.laws.AreaSteps.{located_here}
-use Rattle.carv_objects.specs.laws.CallSteps.{place_of}
+use Rattle.carv_objects.specs.Laws.AreaSteps.{located_here}
+use Rattle.carv_objects.specs.Laws.CallSteps.{place_of}
 use Rattle.carv_objects.specs.Area.{decode}
 use Rattle.carv_objects.proofs.subtree.place.Goals as goal
 

@@ -27,8 +27,8 @@ use native.Mathlib.Omega.{arith}
 use lib.ListN.{length, length-set}
 use borrow.Author.Rules.{rules}
 use Rattle.carv_objects.specs.Area.{decode}
-use Rattle.carv_objects.specs.laws.Calls.{area_sound, area_formed}
-use Rattle.carv_objects.specs.laws.TotalSteps.{Passed, starts, passes, ends, used_fits, free_fits, left_fits}
+use Rattle.carv_objects.specs.Laws.Calls.{area_sound, area_formed}
+use Rattle.carv_objects.specs.Laws.TotalSteps.{Passed, starts, passes, ends, used_fits, free_fits, left_fits}
 use Rattle.carv_objects.proofs.area.count.Reads as count-reads
 use Rattle.carv_objects.proofs.area.id_at.Reads as id-at-reads
 use Rattle.carv_objects.proofs.area.payer_at.Reads as payer-at-reads
