@@ -15,4 +15,4 @@ append_entry-requires c =
 pub returns : goal.returns
 unfolding table
 returns c =
-    entry_appended _ c.requires.well_formed _ (c.append_entry.auto.0 ∙ length_table c.args.a.now c.requires.well_formed.size) _ _ c.requires.a_len_bound.1 c.append_entry.ensures
+    entry_appended _ c.requires.well_formed _ (c.append_entry.auto.t ∙ length_table c.args.a.now c.requires.well_formed.size) _ _ c.requires.a_len_bound.1 c.append_entry.ensures

@@ -14,4 +14,4 @@ write_entry-requires c =
 pub returns : goal.returns
 unfolding table
 returns c =
-    entry_set _ c.requires.well_formed _ (c.write_entry.auto.0 ∙ length_table c.args.a.now c.requires.well_formed.size) _ _ _ c.requires.i_in_bounds.0 c.requires.i_in_bounds.1 c.write_entry.ensures
+    entry_set _ c.requires.well_formed _ (c.write_entry.auto.t ∙ length_table c.args.a.now c.requires.well_formed.size) _ _ _ c.requires.i_in_bounds.0 c.requires.i_in_bounds.1 c.write_entry.ensures

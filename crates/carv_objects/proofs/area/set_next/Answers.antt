@@ -9,4 +9,4 @@ use Rattle.carv_objects.proofs.area.set_next.Goals as goal
 pub returns : goal.returns
 unfolding head
 returns c =
-    next_put c.args.a.now _ c.requires (c.put.auto.0 ∙ length_head c.args.a.now c.requires) _ c.put.ensures.words
+    next_put c.args.a.now _ c.requires (c.put.auto.a ∙ length_head c.args.a.now c.requires) _ c.put.ensures.words

@@ -14,4 +14,4 @@ remove_row-requires c =
 pub returns : goal.returns
 unfolding table
 returns c =
-    entry_removed _ c.requires.well_formed _ (c.remove_row.auto.0 ∙ length_table c.args.a.now c.requires.well_formed.size) _ c.requires.i_in_bounds c.remove_row.ensures.words
+    entry_removed _ c.requires.well_formed _ (c.remove_row.auto.t ∙ length_table c.args.a.now c.requires.well_formed.size) _ c.requires.i_in_bounds c.remove_row.ensures.words

@@ -17,14 +17,14 @@ find-requires c =
 
 pub returns-in_default : goal.returns-in_default
 returns-in_default c =
-    refused _ _ c.requires 7 (charge_of_missing c.args.id (decode c.args.a.now) (gone_has (decode c.args.a.now) _ (located_gone _ _ _ c.find.ensures c.enum_told-1.given.1)))
+    refused _ _ c.requires 7 (charge_of_missing c.args.id (decode c.args.a.now) (gone_has (decode c.args.a.now) _ (located_gone _ _ _ c.find.ensures c.in_default.is)))
 
 pub entry_at-e-requires : goal.entry_at-e-requires
 entry_at-e-requires c =
-    record { well_formed = area_formed _ c.requires; i_in_bounds = (located_here _ _ _ c.find.ensures _ c.i-1.given.1).within }
+    record { well_formed = area_formed _ c.requires; i_in_bounds = (located_here _ _ _ c.find.ensures _ c.in-At.is).within }
 
 pub returns : goal.returns
 returns c =
-    answered _ _ c.requires _ (charge_of_done c.args.id (decode c.args.a.now) (here_has (decode c.args.a.now) _ _ (located_here _ _ _ c.find.ensures _ c.i-1.given.1))) _ refl
-    (ap (λ (x : Entry). some (charge x.payer x.charge)) (c.entry_at-e.ensures ∙ sym (here_entry (decode c.args.a.now) _ _ (located_here _ _ _ c.find.ensures _ c.i-1.given.1)))) _
+    answered _ _ c.requires _ (charge_of_done c.args.id (decode c.args.a.now) (here_has (decode c.args.a.now) _ _ (located_here _ _ _ c.find.ensures _ c.in-At.is))) _ refl
+    (ap (λ (x : Entry). some (charge x.payer x.charge)) (c.entry_at-e.ensures ∙ sym (here_entry (decode c.args.a.now) _ _ (located_here _ _ _ c.find.ensures _ c.in-At.is)))) _
     (unchanged _ (area_formed _ c.requires)) (area_sound _ c.requires)

@@ -10,25 +10,18 @@ use Rattle.carv_objects.specs.Area.{decode}
 use Rattle.carv_objects.specs.Laws.CallSteps.{pays_ends, pays_found, pays_on}
 use Rattle.carv_objects.proofs.calls.pays.Goals as goal
 
-pays_at_requires : tie.Need-pays-at-requires invariant_loop decreases_loop
-pays_at_requires c κs = (c.before.before.before.before.requires, omega (arith, c.before.loop.invariant.0, c.loop-test.true))
-
-returns : tie.Need-returns invariant_loop decreases_loop
-returns c =
-    let at = c.before.before.before.loop in
-    pays_found (decode c.before.before.before.before.before.before.args.a.now).rows _ _ _ at.invariant.1 (omega (arith, at.invariant.0, c.before.before.loop-test.true)) _ c.before.pays-at.ensures c.if1.true
-
-loop_again : tie.Need-loop-preserved invariant_loop decreases_loop
-loop_again c =
-    let at = c.before.before.before.loop in
-    (at.invariant.0, pays_on (decode c.before.before.before.before.before.before.args.a.now).rows _ _ _ at.invariant.1 (omega (arith, at.invariant.0, c.before.before.loop-test.true)) _ c.before.pays-at.ensures c.if1.false)
-
-returns_2 : tie.Need-returns-2 invariant_loop decreases_loop
-returns_2 c = pays_ends (decode c.before.before.before.before.args.a.now).rows _ c.before.loop.i _ c.before.loop.invariant.1 (omega (arith, c.before.loop.invariant.0, c.loop-test.false))
-
 pub loop-i-init : goal.loop-i-init
 loop-i-init c =
     (c.count-n.ensures, refl)
+
+pub pays_at-requires : goal.pays_at-requires
+pays_at-requires c =
+    record { well_formed = c.requires; i_in_bounds = omega (arith, c.loop-i.invariant.0, c.loop-i-test.true) }
+
+pub returns-then-pays_at : goal.returns-then-pays_at
+returns-then-pays_at c =
+    let at = c.loop-i in
+    pays_found (decode c.args.a.now).rows _ _ _ at.invariant.1 (omega (arith, at.invariant.0, c.loop-i-test.true)) _ c.pays_at.ensures c.if-pays_at.true
 
 pub overflow_add-i : goal.overflow_add-i
 overflow_add-i c =
@@ -37,3 +30,12 @@ overflow_add-i c =
 pub loop-i-smaller : goal.loop-i-smaller
 loop-i-smaller c =
     omega arith
+
+pub loop-i-preserved : goal.loop-i-preserved
+loop-i-preserved c =
+    let at = c.loop-i in
+    (at.invariant.0, pays_on (decode c.args.a.now).rows _ _ _ at.invariant.1 (omega (arith, at.invariant.0, c.loop-i-test.true)) _ c.pays_at.ensures c.if-pays_at.false)
+
+pub returns : goal.returns
+returns c =
+    pays_ends (decode c.args.a.now).rows _ c.loop-i.i _ c.loop-i.invariant.1 (omega (arith, c.loop-i.invariant.0, c.loop-i-test.false))

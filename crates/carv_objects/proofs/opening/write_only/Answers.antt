@@ -6,7 +6,7 @@ use Rattle.carv_objects.proofs.opening.write_only.Goals as goal
 
 pub append_entry-requires : goal.append_entry-requires
 append_entry-requires c =
-    record { stored = cleared_stored c.args.t.now _ c.requires _ refl c.clear.ensures.words; t_in_bounds = cleared_room c.args.t.now _ c.requires _ refl c.clear.ensures.words c.clear.auto.0 }
+    record { stored = cleared_stored c.args.t.now _ c.requires _ refl c.clear.ensures.words; t_in_bounds = cleared_room c.args.t.now _ c.requires _ refl c.clear.ensures.words c.clear.auto.t }
 
 pub returns : goal.returns
 returns c =

@@ -6,6 +6,7 @@ use Prim.Native.Nat.{◌/◌}
 use Rattle.carv_area.specs.Words.{words}
 use Rattle.carv_objects.specs.Laws.SoundPlace.{Near, near, near_up, near_down, near_past, near_other}
 use borrow.Author.Rules.{rules}
+use Rattle.carv_objects.proofs.sound.place.Goals.{then-x-p-2, else-x-p-2}
 use Rattle.carv_objects.proofs.sound.place.Goals as goal
 
 pub returns-then-x-p : goal.returns-then-x-p
@@ -19,10 +20,10 @@ loop-len-init c =
 pub loop-len-preserved : goal.loop-len-preserved
 loop-len-preserved c =
     let at = c.loop-len in
-    ⊎_elim
-    (λ v. rw v.1 (near_up c.requires.rise at.invariant (at.len / 2) (omega arith) (omega arith) (omega arith)))
-    (λ v. rw v.1 (near_down c.requires.rise at.invariant (at.len / 2) (omega arith) (omega arith) (omega arith)))
-    c.if-x-p-2.branch
+    elim c.if-x-p-2.branch [
+      then-x-p-2 w ↦ rw w.lo-is (near_up c.requires.rise at.invariant (at.len / 2) (omega arith) (omega arith) (omega arith))
+      | else-x-p-2 w ↦ rw w.lo-is (near_down c.requires.rise at.invariant (at.len / 2) (omega arith) (omega arith) (omega arith))
+    ]
 
 pub returns-then-x-p-3 : goal.returns-then-x-p-3
 returns-then-x-p-3 c =

@@ -29,7 +29,7 @@ turn-requires c =
 
 pub returns-then-not-turn : goal.returns-then-not-turn
 returns-then-not-turn c =
-    record { so = λ e. absurd (false≢true e); not = λ e all. c.turn.ensures.off (not-true _ c.if-not-turn.true) all }
+    record { so = λ e. absurd (false≢true e); not = λ e all. c.turn.ensures.off c.if-not-turn.true all }
 
 pub bounds-places-q-in-loop-i : goal.bounds-places-q-in-loop-i
 bounds-places-q-in-loop-i c =
@@ -37,14 +37,14 @@ bounds-places-q-in-loop-i c =
 
 pub loop-i-preserved : goal.loop-i-preserved
 loop-i-preserved c =
-    (omega arith, c.turn.ensures.on (not-false _ c.if-not-turn.false))
+    (omega arith, c.turn.ensures.on c.if-not-turn.false)
 
 pub returns-then-not-is_zero : goal.returns-then-not-is_zero
 returns-then-not-is_zero c =
     let e : c.loop-i.i ≡ get_or (words c.args.t.now) 0 0 = omega arith in
     record {
       so = λ f. absurd (false≢true f);
-      not = λ f all. false≢true (sym (not-true _ c.if-not-is_zero.true) ∙ c.is_zero.ensures ∙ used_zero c.loop-i.invariant.1 e (omega arith) all);
+      not = λ f all. false≢true (sym c.if-not-is_zero.true ∙ c.is_zero.ensures ∙ used_zero c.loop-i.invariant.1 e (omega arith) all);
     }
 
 pub returns-then-not-is_zero-2 : goal.returns-then-not-is_zero-2
@@ -52,7 +52,7 @@ returns-then-not-is_zero-2 c =
     let e : c.loop-i.i ≡ get_or (words c.args.t.now) 0 0 = omega arith in
     record {
       so = λ f. absurd (false≢true f);
-      not = λ f all. false≢true (sym (not-true _ c.if-not-is_zero-2.true) ∙ c.is_zero-2.ensures ∙ memory_zero c.loop-i.invariant.1 e (omega arith) all);
+      not = λ f all. false≢true (sym c.if-not-is_zero-2.true ∙ c.is_zero-2.ensures ∙ memory_zero c.loop-i.invariant.1 e (omega arith) all);
     }
 
 pub returns : goal.returns
@@ -61,8 +61,8 @@ returns c =
     let e : c.loop-i.i ≡ get_or (words c.args.t.now) 0 0 = omega arith in
     record {
       so = λ f. ended W e (omega arith) (omega arith)
-          (sym c.is_zero.ensures ∙ not-false _ c.if-not-is_zero.false)
-          (sym c.is_zero-2.ensures ∙ not-false _ c.if-not-is_zero-2.false)
+          (sym c.is_zero.ensures ∙ c.if-not-is_zero.false)
+          (sym c.is_zero-2.ensures ∙ c.if-not-is_zero-2.false)
           (sym c.is_zero-3.ensures ∙ f);
       not = λ f all. false≢true (sym f ∙ c.is_zero-3.ensures ∙ cpu_zero W e (omega arith) all);
     }

@@ -1,4 +1,6 @@
 -- `carv_objects::subtree::part` meets its contract. Assumes nothing.
+use mathlib.Core.Path.{ap}
+use mathlib.Core.Bool.{not}
 use Rattle.carv_objects.specs.Laws.Calls.{area_sound, area_formed}
 use Rattle.carv_objects.specs.Laws.TotalSteps.{not_counted, counted, place_sound}
 use Rattle.carv_objects.specs.Area.{decode}
@@ -6,7 +8,7 @@ use Rattle.carv_objects.proofs.subtree.part.Goals as goal
 
 pub returns-then-not-counts : goal.returns-then-not-counts
 returns-then-not-counts c =
-    not_counted (decode c.args.a.now) c.args.i c.args.counts c.if-not-counts.true
+    not_counted (decode c.args.a.now) c.args.i c.args.counts (ap not c.if-not-counts.true)
 
 pub account_at-c-requires : goal.account_at-c-requires
 account_at-c-requires c =
@@ -18,4 +20,4 @@ free-free-requires c =
 
 pub returns : goal.returns
 returns c =
-    counted (decode c.args.a.now) c.args.i c.args.counts _ _ c.if-not-counts.false c.account_at-c.ensures c.free-free.ensures
+    counted (decode c.args.a.now) c.args.i c.args.counts _ _ (ap not c.if-not-counts.false) c.account_at-c.ensures c.free-free.ensures

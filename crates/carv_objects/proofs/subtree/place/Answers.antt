@@ -7,8 +7,8 @@ use Rattle.carv_objects.proofs.subtree.place.Goals as goal
 
 pub returns-in-At : goal.returns-in-At
 returns-in-At c =
-    (located_here (decode c.args.a.now).rows _ _ c.find_near.ensures _ c.i-1.given.1)
+    (located_here (decode c.args.a.now).rows _ _ c.find_near.ensures _ c.in-At.is)
 
 pub returns-in-Nothing : goal.returns-in-Nothing
 returns-in-Nothing c =
-    place_of (decode c.args.a.now) _ c.requires.id_value _ c.find_near.ensures c.enum_told-1.given.1 _
+    place_of (decode c.args.a.now) _ c.requires.id_value _ c.find_near.ensures c.in-Nothing.is _

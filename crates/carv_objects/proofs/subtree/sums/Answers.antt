@@ -1,26 +1,4 @@
 -- `carv_objects::subtree::sums` meets its contract. The loop's invariant: the places before i are marked, and the sums are those of their objects within b. Assumes nothing.
--- src/subtree.rt:120:9
--- src/subtree.rt:127:5
--- src/subtree.rt:128:25
--- src/subtree.rt:128:13
--- src/subtree.rt:129:26
--- src/subtree.rt:129:26
--- src/subtree.rt:129:13
--- src/subtree.rt:130:13
--- src/subtree.rt:131:9
--- src/subtree.rt:132:23
--- src/subtree.rt:132:13
--- src/subtree.rt:133:22
--- src/subtree.rt:133:9
--- src/subtree.rt:133:9
--- src/subtree.rt:134:13
--- src/subtree.rt:135:9
--- src/subtree.rt:136:9
--- src/subtree.rt:137:9
--- src/subtree.rt:138:9
--- src/subtree.rt:127:5
--- src/subtree.rt:127:5
--- src/subtree.rt:114:1
 use mathlib.Core.Path.{◌≡◌, refl, ◌∙◌}
 use Prim.Native.Nat.{◌-◌}
 use native.Mathlib.Omega.{arith}
@@ -38,68 +16,70 @@ use Rattle.carv_objects.proofs.subtree.part.Reads as part-reads
 use Rattle.carv_objects.proofs.subtree.wide.Reads as wide-reads
 use Rattle.carv_objects.proofs.subtree.sums.Goals as goal
 
-count_requires : tie.Need-count-requires invariant_loop decreases_loop
-count_requires c κs = area_formed _ c.before.requires.0
+pub count-n-requires : goal.count-n-requires
+count-n-requires c =
+    area_formed _ c.requires.a_value
 
-loop_holds : tie.Need-loop-init invariant_loop decreases_loop
-loop_holds c = (c.count.ensures, (refl, starts (decode c.before.before.args.a.now) c.before.before.args.b _))
+pub loop-i-init : goal.loop-i-init
+loop-i-init c =
+    (c.count-n.ensures, (refl, starts (decode c.args.a.now) c.args.b _))
 
-payer_at_requires : tie.Need-payer-at-requires invariant_loop decreases_loop
-payer_at_requires c κs = (area_formed _ c.before.before.before.before.requires.0, (omega (arith, c.before.loop.invariant.0, c.loop-test.true)))
+pub payer_at-requires : goal.payer_at-requires
+payer_at-requires c =
+    record { well_formed = area_formed _ c.requires.a_value; i_in_bounds = (omega (arith, c.loop-i.invariant.0, c.loop-i-test.true)) }
 
-note_requires : tie.Need-note-requires invariant_loop decreases_loop
-note_requires c κs = search rules
+pub bounds-places-from : goal.bounds-places-from
+bounds-places-from c =
+    omega (arith, c.note-from.ensures)
 
-mul_wide : tie.Need-overflow-mul-wide invariant_loop decreases_loop
-mul_wide c = search rules
+pub is_row_within-inside-requires : goal.is_row_within-inside-requires
+is_row_within-inside-requires c =
+    record { a_value = c.requires.a_value; i_in_bounds = (omega (arith, c.loop-i.invariant.0, c.loop-i-test.true)); marked = c.loop-i.invariant.1.1.marked }
 
-array_read_wide : tie.Need-array-read-wide invariant_loop decreases_loop
-array_read_wide c = omega (arith, c.note.ensures)
+pub bounds-marks-i : goal.bounds-marks-i
+bounds-marks-i c =
+    omega (arith, c.loop-i.invariant.0, c.loop-i-test.true, (area_sound _ c.requires.a_value).few)
 
-wide_requires : tie.Need-wide-requires invariant_loop decreases_loop
-wide_requires c κs = search rules
+pub id_at-requires : goal.id_at-requires
+id_at-requires c =
+    record { well_formed = area_formed _ c.requires.a_value; i_in_bounds = (omega (arith, c.loop-i.invariant.0, c.loop-i-test.true)) }
 
-is_row_within_requires : tie.Need-is-row-within-requires invariant_loop decreases_loop
-is_row_within_requires c κs = (c.before.before.before.before.before.before.before.before.requires.0, ((omega (arith, c.before.before.before.before.before.loop.invariant.0, c.before.before.before.before.loop-test.true)), c.before.before.before.before.before.loop.invariant.1.1.marked))
+pub overflow_cast-places : goal.overflow_cast-places
+overflow_cast-places c =
+    record { fits = omega (arith, c.loop-i.invariant.0, c.loop-i-test.true, (area_sound _ c.requires.a_value).few) }
 
-array_write_marks : tie.Need-array-write-marks invariant_loop decreases_loop
-array_write_marks c = omega (arith, c.before.before.before.before.before.before.loop.invariant.0, c.before.before.before.before.before.loop-test.true, (area_sound _ c.before.before.before.before.before.before.before.before.before.requires.0).few)
+pub bounds-places-to : goal.bounds-places-to
+bounds-places-to c =
+    omega (arith, c.note-to.ensures)
 
-id_at_requires : tie.Need-id-at-requires invariant_loop decreases_loop
-id_at_requires c κs = (area_formed _ c.before.before.before.before.before.before.before.before.before.requires.0, (omega (arith, c.before.before.before.before.before.before.loop.invariant.0, c.before.before.before.before.before.loop-test.true)))
+pub part-p-requires : goal.part-p-requires
+part-p-requires c =
+    record { a_value = c.requires.a_value; i_in_bounds = (omega (arith, c.loop-i.invariant.0, c.loop-i-test.true)) }
 
-note_requires_2 : tie.Need-note-requires-2 invariant_loop decreases_loop
-note_requires_2 c κs = search rules
+pub overflow_add-used : goal.overflow_add-used
+overflow_add-used c =
+    record { fits = used_fits c.args.a.now c.requires.a_value c.args.b c.args.j c.requires.here c.requires.b_value (λ k. omega (arith, c.shared_slice_known-1.given k)) _ _ _ _ _ (passes (decode c.args.a.now) c.args.b c.loop-i.i (omega (arith, c.loop-i.invariant.0, c.loop-i-test.true)) c.loop-i.marks c.loop-i.invariant.1.0 (omega (arith, c.loop-i.invariant.0, c.loop-i-test.true, (area_sound _ c.requires.a_value).few)) _ c.is_row_within-inside.ensures _ c.part-p.ensures _ _ _ c.loop-i.invariant.1.1) }
 
-cast_places : tie.Need-overflow-cast-places invariant_loop decreases_loop
-cast_places c = record { fits = omega (arith, c.before.before.before.before.before.before.before.before.loop.invariant.0, c.before.before.before.before.before.before.before.loop-test.true, (area_sound _ c.before.before.before.before.before.before.before.before.before.before.before.requires.0).few) }
+pub overflow_add-free : goal.overflow_add-free
+overflow_add-free c =
+    record { fits = free_fits c.args.a.now c.requires.a_value c.args.b c.args.j c.requires.here c.requires.b_value (λ k. omega (arith, c.shared_slice_known-1.given k)) _ _ _ _ _ (passes (decode c.args.a.now) c.args.b c.loop-i.i (omega (arith, c.loop-i.invariant.0, c.loop-i-test.true)) c.loop-i.marks c.loop-i.invariant.1.0 (omega (arith, c.loop-i.invariant.0, c.loop-i-test.true, (area_sound _ c.requires.a_value).few)) _ c.is_row_within-inside.ensures _ c.part-p.ensures _ _ _ c.loop-i.invariant.1.1) }
 
-mul_places : tie.Need-overflow-mul-places invariant_loop decreases_loop
-mul_places c = search rules
+pub overflow_add-left : goal.overflow_add-left
+overflow_add-left c =
+    record { fits = left_fits c.args.a.now c.requires.a_value c.args.b c.args.j c.requires.here c.requires.b_value (λ k. omega (arith, c.shared_slice_known-1.given k)) _ _ _ _ _ (passes (decode c.args.a.now) c.args.b c.loop-i.i (omega (arith, c.loop-i.invariant.0, c.loop-i-test.true)) c.loop-i.marks c.loop-i.invariant.1.0 (omega (arith, c.loop-i.invariant.0, c.loop-i-test.true, (area_sound _ c.requires.a_value).few)) _ c.is_row_within-inside.ensures _ c.part-p.ensures _ _ _ c.loop-i.invariant.1.1) }
 
-array_write_places : tie.Need-array-write-places invariant_loop decreases_loop
-array_write_places c = omega (arith, c.note2.ensures)
+pub overflow_add-i : goal.overflow_add-i
+overflow_add-i c =
+    omega arith
 
-part_requires : tie.Need-part-requires invariant_loop decreases_loop
-part_requires c κs = (c.before.before.before.before.before.before.before.before.before.before.before.requires.0, (omega (arith, c.before.before.before.before.before.before.before.before.loop.invariant.0, c.before.before.before.before.before.before.before.loop-test.true)))
+pub loop-i-smaller : goal.loop-i-smaller
+loop-i-smaller c =
+    omega (arith, c.loop-i-test.true)
 
-add_used : tie.Need-overflow-add-used invariant_loop decreases_loop
-add_used c = record { fits = used_fits c.before.before.before.before.before.before.before.before.before.before.before.before.before.args.a.now c.before.before.before.before.before.before.before.before.before.before.before.before.before.requires.0 c.before.before.before.before.before.before.before.before.before.before.before.before.before.args.b c.before.before.before.before.before.before.before.before.before.before.before.before.before.args.j c.before.before.before.before.before.before.before.before.before.before.before.before.before.requires.1.0 c.before.before.before.before.before.before.before.before.before.before.before.before.before.requires.1.1 (λ k. omega (arith, c.before.before.before.before.before.before.before.before.before.before.before.before.shared-slice-known.given k)) _ _ _ _ _ (passes (decode c.before.before.before.before.before.before.before.before.before.before.before.before.before.args.a.now) c.before.before.before.before.before.before.before.before.before.before.before.before.before.args.b c.before.before.before.before.before.before.before.before.before.before.loop.i (omega (arith, c.before.before.before.before.before.before.before.before.before.before.loop.invariant.0, c.before.before.before.before.before.before.before.before.before.loop-test.true)) c.before.before.before.before.before.before.before.before.before.before.loop.marks c.before.before.before.before.before.before.before.before.before.before.loop.invariant.1.0 (omega (arith, c.before.before.before.before.before.before.before.before.before.before.loop.invariant.0, c.before.before.before.before.before.before.before.before.before.loop-test.true, (area_sound _ c.before.before.before.before.before.before.before.before.before.before.before.before.before.requires.0).few)) _ c.before.before.before.before.is-row-within.ensures _ c.before.part.ensures _ _ _ c.before.before.before.before.before.before.before.before.before.before.loop.invariant.1.1) }
+pub loop-i-preserved : goal.loop-i-preserved
+loop-i-preserved c =
+    (c.loop-i.invariant.0, (length-set c.loop-i.marks c.loop-i.i c.is_row_within-inside.result ∙ c.loop-i.invariant.1.0, passes (decode c.args.a.now) c.args.b c.loop-i.i (omega (arith, c.loop-i.invariant.0, c.loop-i-test.true)) c.loop-i.marks c.loop-i.invariant.1.0 (omega (arith, c.loop-i.invariant.0, c.loop-i-test.true, (area_sound _ c.requires.a_value).few)) _ c.is_row_within-inside.ensures _ c.part-p.ensures _ _ _ c.loop-i.invariant.1.1))
 
-add_free : tie.Need-overflow-add-free invariant_loop decreases_loop
-add_free c = record { fits = free_fits c.before.before.before.before.before.before.before.before.before.before.before.before.before.before.args.a.now c.before.before.before.before.before.before.before.before.before.before.before.before.before.before.requires.0 c.before.before.before.before.before.before.before.before.before.before.before.before.before.before.args.b c.before.before.before.before.before.before.before.before.before.before.before.before.before.before.args.j c.before.before.before.before.before.before.before.before.before.before.before.before.before.before.requires.1.0 c.before.before.before.before.before.before.before.before.before.before.before.before.before.before.requires.1.1 (λ k. omega (arith, c.before.before.before.before.before.before.before.before.before.before.before.before.before.shared-slice-known.given k)) _ _ _ _ _ (passes (decode c.before.before.before.before.before.before.before.before.before.before.before.before.before.before.args.a.now) c.before.before.before.before.before.before.before.before.before.before.before.before.before.before.args.b c.before.before.before.before.before.before.before.before.before.before.before.loop.i (omega (arith, c.before.before.before.before.before.before.before.before.before.before.before.loop.invariant.0, c.before.before.before.before.before.before.before.before.before.before.loop-test.true)) c.before.before.before.before.before.before.before.before.before.before.before.loop.marks c.before.before.before.before.before.before.before.before.before.before.before.loop.invariant.1.0 (omega (arith, c.before.before.before.before.before.before.before.before.before.before.before.loop.invariant.0, c.before.before.before.before.before.before.before.before.before.before.loop-test.true, (area_sound _ c.before.before.before.before.before.before.before.before.before.before.before.before.before.before.requires.0).few)) _ c.before.before.before.before.before.is-row-within.ensures _ c.before.before.part.ensures _ _ _ c.before.before.before.before.before.before.before.before.before.before.before.loop.invariant.1.1) }
-
-add_left : tie.Need-overflow-add-left invariant_loop decreases_loop
-add_left c = record { fits = left_fits c.before.before.before.before.before.before.before.before.before.before.before.before.before.before.before.args.a.now c.before.before.before.before.before.before.before.before.before.before.before.before.before.before.before.requires.0 c.before.before.before.before.before.before.before.before.before.before.before.before.before.before.before.args.b c.before.before.before.before.before.before.before.before.before.before.before.before.before.before.before.args.j c.before.before.before.before.before.before.before.before.before.before.before.before.before.before.before.requires.1.0 c.before.before.before.before.before.before.before.before.before.before.before.before.before.before.before.requires.1.1 (λ k. omega (arith, c.before.before.before.before.before.before.before.before.before.before.before.before.before.before.shared-slice-known.given k)) _ _ _ _ _ (passes (decode c.before.before.before.before.before.before.before.before.before.before.before.before.before.before.before.args.a.now) c.before.before.before.before.before.before.before.before.before.before.before.before.before.before.before.args.b c.before.before.before.before.before.before.before.before.before.before.before.before.loop.i (omega (arith, c.before.before.before.before.before.before.before.before.before.before.before.before.loop.invariant.0, c.before.before.before.before.before.before.before.before.before.before.before.loop-test.true)) c.before.before.before.before.before.before.before.before.before.before.before.before.loop.marks c.before.before.before.before.before.before.before.before.before.before.before.before.loop.invariant.1.0 (omega (arith, c.before.before.before.before.before.before.before.before.before.before.before.before.loop.invariant.0, c.before.before.before.before.before.before.before.before.before.before.before.loop-test.true, (area_sound _ c.before.before.before.before.before.before.before.before.before.before.before.before.before.before.before.requires.0).few)) _ c.before.before.before.before.before.before.is-row-within.ensures _ c.before.before.before.part.ensures _ _ _ c.before.before.before.before.before.before.before.before.before.before.before.before.loop.invariant.1.1) }
-
-add_i : tie.Need-overflow-add-i invariant_loop decreases_loop
-add_i c = omega arith
-
-loop_less : tie.Need-loop-smaller invariant_loop decreases_loop
-loop_less c = omega (arith, c.before.before.before.before.before.before.before.before.before.before.before.loop-test.true)
-
-loop_again : tie.Need-loop-preserved invariant_loop decreases_loop
-loop_again c = (c.before.before.before.before.before.before.before.before.before.before.before.before.loop.invariant.0, (length-set c.before.before.before.before.before.before.before.before.before.before.before.before.loop.marks c.before.before.before.before.before.before.before.before.before.before.before.before.loop.i c.before.before.before.before.before.before.is-row-within.result ∙ c.before.before.before.before.before.before.before.before.before.before.before.before.loop.invariant.1.0, passes (decode c.before.before.before.before.before.before.before.before.before.before.before.before.before.before.before.args.a.now) c.before.before.before.before.before.before.before.before.before.before.before.before.before.before.before.args.b c.before.before.before.before.before.before.before.before.before.before.before.before.loop.i (omega (arith, c.before.before.before.before.before.before.before.before.before.before.before.before.loop.invariant.0, c.before.before.before.before.before.before.before.before.before.before.before.loop-test.true)) c.before.before.before.before.before.before.before.before.before.before.before.before.loop.marks c.before.before.before.before.before.before.before.before.before.before.before.before.loop.invariant.1.0 (omega (arith, c.before.before.before.before.before.before.before.before.before.before.before.before.loop.invariant.0, c.before.before.before.before.before.before.before.before.before.before.before.loop-test.true, (area_sound _ c.before.before.before.before.before.before.before.before.before.before.before.before.before.before.before.requires.0).few)) _ c.before.before.before.before.before.before.is-row-within.ensures _ c.before.before.before.part.ensures _ _ _ c.before.before.before.before.before.before.before.before.before.before.before.before.loop.invariant.1.1))
-
-returns : tie.Need-returns invariant_loop decreases_loop
-returns c = ends (decode c.before.before.before.before.args.a.now) (area_sound _ c.before.before.before.before.requires.0) c.before.before.before.before.args.b _ _ _ _ _ c.before.loop.invariant.1.1 (omega (arith, c.before.loop.invariant.0, c.loop-test.false))
+pub returns : goal.returns
+returns c =
+    ends (decode c.args.a.now) (area_sound _ c.requires.a_value) c.args.b _ _ _ _ _ c.loop-i.invariant.1.1 (omega (arith, c.loop-i.invariant.0, c.loop-i-test.false))

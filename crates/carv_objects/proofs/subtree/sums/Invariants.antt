@@ -1,26 +1,4 @@
 -- `carv_objects::subtree::sums` meets its contract. The loop's invariant: the places before i are marked, and the sums are those of their objects within b. Assumes nothing.
--- src/subtree.rt:120:9
--- src/subtree.rt:127:5
--- src/subtree.rt:128:25
--- src/subtree.rt:128:13
--- src/subtree.rt:129:26
--- src/subtree.rt:129:26
--- src/subtree.rt:129:13
--- src/subtree.rt:130:13
--- src/subtree.rt:131:9
--- src/subtree.rt:132:23
--- src/subtree.rt:132:13
--- src/subtree.rt:133:22
--- src/subtree.rt:133:9
--- src/subtree.rt:133:9
--- src/subtree.rt:134:13
--- src/subtree.rt:135:9
--- src/subtree.rt:136:9
--- src/subtree.rt:137:9
--- src/subtree.rt:138:9
--- src/subtree.rt:127:5
--- src/subtree.rt:127:5
--- src/subtree.rt:114:1
 use mathlib.Core.Path.{◌≡◌, refl, ◌∙◌}
 use Prim.Native.Nat.{◌-◌}
 use native.Mathlib.Omega.{arith}
