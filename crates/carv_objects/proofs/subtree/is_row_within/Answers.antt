@@ -10,7 +10,7 @@ id_at-requires c =
 
 pub returns-then-id_at-b : goal.returns-then-id_at-b
 returns-then-id_at-b c =
-    row_here (decode c.args.t1.now) (area_sound _ c.requires.a_value) c.args.b c.args.i c.requires.i_in_bounds _ c.id_at.ensures c.if-id_at-b.true
+    row_here (decode c.args.a.now) (area_sound _ c.requires.a_value) c.args.b c.args.i c.requires.i_in_bounds _ c.id_at.ensures c.if-id_at-b.true
 
 pub payer_at-payer-requires : goal.payer_at-payer-requires
 payer_at-payer-requires c =
@@ -18,8 +18,8 @@ payer_at-payer-requires c =
 
 pub is_within-requires : goal.is_within-requires
 is_within-requires c =
-    record { a_value = c.requires.a_value; id_value = row_payer (decode c.args.t1.now) (area_sound _ c.requires.a_value) c.args.b c.args.i c.requires.i_in_bounds _ c.payer_at-payer.ensures; marked = c.requires.marked }
+    record { a_value = c.requires.a_value; id_value = row_payer (decode c.args.a.now) (area_sound _ c.requires.a_value) c.args.b c.args.i c.requires.i_in_bounds _ c.payer_at-payer.ensures; marked = c.requires.marked }
 
 pub returns : goal.returns
 returns c =
-    row_by_payer (decode c.args.t1.now) (area_sound _ c.requires.a_value) c.args.b c.args.i c.requires.i_in_bounds _ c.id_at.ensures c.if-id_at-b.false _ c.payer_at-payer.ensures _ c.is_within.ensures
+    row_by_payer (decode c.args.a.now) (area_sound _ c.requires.a_value) c.args.b c.args.i c.requires.i_in_bounds _ c.id_at.ensures c.if-id_at-b.false _ c.payer_at-payer.ensures _ c.is_within.ensures
