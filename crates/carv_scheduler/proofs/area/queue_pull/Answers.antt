@@ -13,4 +13,4 @@ pull-requires c =
 pub returns : goal.returns
 unfolding queue_part
 returns c =
-    (c.pull.ensures.0, queue_written _ c.requires.well_formed _ _ (c.pull.auto.t ∙ length_queue c.args.a.now c.requires.well_formed.size) c.pull.ensures.1.0)
+    (c.pull.ensures.value, queue_written _ c.requires.well_formed _ _ (c.pull.auto.t ∙ length_queue c.args.a.now c.requires.well_formed.size) c.pull.ensures.queue_2)

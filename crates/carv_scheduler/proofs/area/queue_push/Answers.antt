@@ -13,4 +13,4 @@ push-requires c =
 pub returns : goal.returns
 unfolding queue_part
 returns c =
-    queue_written _ c.requires.well_formed _ _ (c.push.auto.t ∙ length_queue c.args.a.now c.requires.well_formed.size) c.push.ensures.0
+    queue_written _ c.requires.well_formed _ _ (c.push.auto.t ∙ length_queue c.args.a.now c.requires.well_formed.size) c.push.ensures.queue_2

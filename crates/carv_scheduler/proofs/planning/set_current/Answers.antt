@@ -5,4 +5,4 @@ use Rattle.carv_scheduler.proofs.planning.set_current.Goals as goal
 
 pub returns : goal.returns
 returns c =
-    counted c.args.a.now _ _ _ c.switches-count.ensures c.wrapping_add_u64.ensures _ c.set_head.ensures
+    counted c.args.a.now _ _ _ c.switches-count.ensures c.wrapping_add_u64.ensures.value _ c.set_head.ensures

@@ -28,7 +28,7 @@ get-requires c =
 
 pub returns-then-get-ne-READY : goal.returns-then-get-ne-READY
 returns-then-get-ne-READY c =
-    record { on = λ e. absurd (false≢true e); off = λ e. off_state c.get.ensures c.requires.j_bound.0 (stands (words c.args.t.now) _ _ c.find_near.ensures _ c.in-At.is) (λ q. omega arith) }
+    record { on = λ e. absurd (false≢true e); off = λ e. off_state c.get-id.ensures c.requires.j_bound.0 (stands (words c.args.t.now) _ _ c.find_near.ensures _ c.in-At.is) (λ q. omega arith) }
 
 pub offset_bounds-marks-i : goal.offset_bounds-marks-i
 offset_bounds-marks-i c =
@@ -40,7 +40,7 @@ bounds-marks-i c =
 
 pub returns-then-marks-i-ne0 : goal.returns-then-marks-i-ne0
 returns-then-marks-i-ne0 c =
-    record { on = λ e. absurd (false≢true e); off = λ e. off_marked c.get.ensures c.requires.j_bound.0 (stands (words c.args.t.now) _ _ c.find_near.ensures _ c.in-At.is) c.requires.walk c.if-marks-i-ne0.true }
+    record { on = λ e. absurd (false≢true e); off = λ e. off_marked c.get-id.ensures c.requires.j_bound.0 (stands (words c.args.t.now) _ _ c.find_near.ensures _ c.in-At.is) c.requires.walk c.if-marks-i-ne0.true }
 
 pub offset_bounds-marks-i-2 : goal.offset_bounds-marks-i-2
 offset_bounds-marks-i-2 c =
@@ -52,4 +52,4 @@ bounds-marks-i-2 c =
 
 pub returns : goal.returns
 returns c =
-    record { on = λ e. walk_on c.get.ensures c.requires.j_bound.0 (stands (words c.args.t.now) _ _ c.find_near.ensures _ c.in-At.is) c.requires.walk (keys_rise (words c.args.t.now) c.requires.keyed.rise) c.requires.t_bound c.if-id.false (omega arith) c.if-marks-i-ne0.false; off = λ e. absurd (true≢false e) }
+    record { on = λ e. walk_on c.get-id.ensures c.requires.j_bound.0 (stands (words c.args.t.now) _ _ c.find_near.ensures _ c.in-At.is) c.requires.walk (keys_rise (words c.args.t.now) c.requires.keyed.rise) c.requires.t_bound c.if-id.false (omega arith) c.if-marks-i-ne0.false; off = λ e. absurd (true≢false e) }
