@@ -1,7 +1,7 @@
 -- `replay_records::add` meets its contract. Assumes nothing.
 use borrow.Author.Rules.{rules}
 use Rattle.std.proofs.Common.{sym, ◌∙◌}
-use Rattle.replay_records.specs.laws.Tally.{records_few, added_full, added_last}
+use Rattle.replay_records.proofs.Laws.Tally.{records_few, added_full, added_last}
 use Rattle.replay_records.proofs.add.Goals as goal
 
 pub overflow_add-calls : goal.overflow_add-calls

@@ -1,7 +1,7 @@
 -- `replay_records::read_block` meets its contract. Assumes nothing.
 use Rattle.std.proofs.Common.{◌≡◌, ℕ, length, take, ◌∙◌, arith}
 use Rattle.std.proofs.Math.Seq.{length-take-le}
-use Rattle.replay_records.specs.laws.Tally.{behind_kept, block_fits}
+use Rattle.replay_records.proofs.Laws.Tally.{behind_kept, block_fits}
 use Rattle.replay_records.proofs.read_block.Goals as goal
 
 pub returns : goal.returns
