@@ -13,6 +13,8 @@ mod replay;
 use record::{call_at, reply_at};
 use replay::matches;
 use replay_records::Tally;
+use std::io;
+use std::io::Read;
 
 const RECORD_WORDS: usize = 16;
 
@@ -39,30 +41,29 @@ fn differences(area: &mut [u8], buf: &[u8], n: usize) -> u64
 }
 
 // Reads and replays a block more.
-fn next_block(area: &mut [u8], tally: Tally) -> Tally
+fn next_block<R: Read>(input: &mut R, area: &mut [u8], tally: Tally) -> Tally
     requires { Room tally × (0 < tally.blocks) }
     ensures counted { Counted 128 (Replays area.old area.new) tally result }
     ensures room { Room result × (result.blocks < tally.blocks) }
 {
-    let mut buf = io::large_buffer();
-    let n = replay_records::read_block(&mut buf, RECORD_BYTES);
+    let mut buf = [0; 65_536];
+    let n = replay_records::read_block(input, &mut buf, RECORD_BYTES);
     let different = differences(area, &buf, n / RECORD_BYTES);
     replay_records::add(tally, n, RECORD_BYTES, different)
 }
 
-fn replay_all(area: &mut [u8]) -> Tally {
+fn replay_all<R: Read>(input: &mut R, area: &mut [u8]) -> Tally {
     let mut tally = replay_records::start();
     while tally.blocks > 0 {
-        tally = next_block(area, tally);
+        tally = next_block(input, area, tally);
     }
     tally
 }
 
-fn main() {
+fn main(rt: HostRuntime) -> io::Result<()> {
     let mut area = [0u8; AREA_BYTES];
-    let tally = replay_all(&mut area);
-    io::print_decimal(libc::STDOUT_FILENO, tally.calls);
-    io::write_all(libc::STDOUT_FILENO, b" calls, ");
-    io::print_decimal(libc::STDOUT_FILENO, tally.differences);
-    io::write_all(libc::STDOUT_FILENO, b" differences\n");
+    let tally = replay_all(&mut rt.stdin(), &mut area);
+    let calls = tally.calls;
+    let differences = tally.differences;
+    println!(rt; "{calls} calls, {differences} differences")
 }
