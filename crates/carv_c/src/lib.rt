@@ -172,7 +172,9 @@ pub extern "C" fn carv_start(
 ) -> u64
     ensures { Exported (start id space cspace root (record { rip = rip; rsp = rsp; rflags = rflags; rdi = rdi; rsi = rsi; cs = cs; ss = ss })) area.old out.old result area.new out.new }
 {
-    carv::carv_start(area, id, space, cspace, root, rip, rsp, rflags, rdi, rsi, cs, ss, out)
+    carv::carv_start(
+        area, id, space, cspace, root, rip, rsp, rflags, rdi, rsi, cs, ss, out,
+    )
 }
 
 #[unsafe(no_mangle)]
