@@ -4,4 +4,3 @@ pub mod C
 pub mod Demands
 pub mod Overspending
 pub mod Charging
-pub mod laws

@@ -13,4 +13,4 @@ pub mod Search
 pub mod Parts
 pub mod Stored
 pub mod Lookup
-pub mod laws
+pub mod Laws

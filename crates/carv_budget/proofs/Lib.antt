@@ -1,3 +1,4 @@
 -- What the proofs share.
 pub mod Parts
 pub mod Rules
+pub mod Laws

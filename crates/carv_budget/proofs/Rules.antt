@@ -14,7 +14,7 @@ use Rattle.carv_budget.specs.declared.Answer.TheVariants.{Done, CpuLimitExceeded
 use Rattle.carv_budget.specs.declared.Outcome.{Outcome}
 use Rattle.carv_budget.specs.declared.CarveOut.{CarveOut}
 use Rattle.carv_budget.specs.Account.{period, sound, fresh, blank, due, renew, free, spent, reserve, carved, returnable, outcome, carve_outcome}
-use Rattle.carv_budget.specs.laws.Account.{both, not_first, not_second, first, Sound, sound_told, Returnable, returnable_told, renew_sound, renew_not_due, renew_due}
+use Rattle.carv_budget.proofs.Laws.Account.{both, not_first, not_second, first, Sound, sound_told, Returnable, returnable_told, renew_sound, renew_not_due, renew_due}
 
 -- a question answered, and one missed
 pub asked : (X : Type 0) (b : Bool) (x k m : X) → b ≡ true → x ≡ k → x ≡ cond b k m

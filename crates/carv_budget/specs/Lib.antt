@@ -5,4 +5,3 @@ pub mod Rust
 pub mod Replies
 pub mod Panics
 pub mod Runs
-pub mod laws

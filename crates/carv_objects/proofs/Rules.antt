@@ -3,7 +3,7 @@ use mathlib.Core.Bool.{Bool, true, false, not, ◌&&◌}
 use mathlib.Core.Path.{◌≡◌, sym, ◌∙◌}
 use borrow.Author.Tests.{not-true, not-false, le-leb, lt-leb, eq-eqb, ne_eqb}
 use borrow.Author.Rules.{rules}
-use Rattle.carv_budget.specs.laws.Account.{both, not_first, not_second}
+use Rattle.carv_budget.proofs.Laws.Account.{both, not_first, not_second}
 
 pub turned : (a b : Bool) → a ≡ b → b ≡ a
 turned a b p = sym p

@@ -3,4 +3,4 @@
 pub mod Answer
 pub mod Kinds
 pub mod Area
-pub mod laws
+pub mod Laws

@@ -1,7 +1,7 @@
 // The operations of carv_budget's accounts, as the registry uses them: on sound accounts.
 ghost use Rattle.std.specs.Prelude.{◌≡◌, true, ◌≤◌, min, leb};
 ghost use Rattle.carv_budget.specs.Account.{period, sound, renew, free, spend, charge, credit, return, returnable, fresh};
-ghost use Rattle.carv_objects.specs.laws.Booked.{Books, Carves, done};
+ghost use Rattle.carv_objects.specs.Laws.Booked.{Books, Carves, done};
 
 use carv_budget::{Account, Answer, Outcome};
 

@@ -5,9 +5,9 @@ ghost use Rattle.carv_area.specs.Rows.{remove_at};
 ghost use Rattle.carv_area.specs.Lookup.{Located, Here};
 ghost use Rattle.carv_objects_spec.specs.Registry.{has_place, has_next, budget, object, add};
 ghost use Rattle.carv_objects.specs.Area.{table, decode};
-ghost use Rattle.carv_objects.specs.laws.Rows.{row, no_row};
-ghost use Rattle.carv_objects.specs.laws.Formed.{WellFormed, Leaves};
-ghost use Rattle.carv_objects.specs.laws.AreaSteps.{with_rows, BudgetAt};
+ghost use Rattle.carv_objects.specs.Laws.Rows.{row, no_row};
+ghost use Rattle.carv_objects.specs.Laws.Formed.{WellFormed, Leaves};
+ghost use Rattle.carv_objects.specs.Laws.AreaSteps.{with_rows, BudgetAt};
 
 use crate::kinds::Kind;
 use crate::rows;

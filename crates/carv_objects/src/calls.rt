@@ -7,11 +7,11 @@ ghost use Rattle.carv_objects.specs.declared.Answer.TheVariants as answer;
 ghost use Rattle.carv_objects_spec.specs.Registry.{has, object, pays_for, has_place, has_next, budget, add, create, insert, create_budget, charge_more, uncharge, remove, refill, charge_cpu, pays_for_anything, read_account, charge_of};
 ghost use Rattle.carv_objects_spec.specs.Totals.{read_totals};
 ghost use Rattle.carv_objects.specs.Kinds.{kind_needs_backing};
-ghost use Rattle.carv_objects.specs.laws.Booked.{renewal};
+ghost use Rattle.carv_objects.specs.Laws.Booked.{renewal};
 ghost use Rattle.carv_objects.specs.Area.{decode, sound_area, Serves};
-ghost use Rattle.carv_objects.specs.laws.Rows.{no_row};
-ghost use Rattle.carv_objects.specs.laws.Formed.{WellFormed, Leaves};
-ghost use Rattle.carv_objects.specs.laws.AreaSteps.{with_rows};
+ghost use Rattle.carv_objects.specs.Laws.Rows.{no_row};
+ghost use Rattle.carv_objects.specs.Laws.Formed.{WellFormed, Leaves};
+ghost use Rattle.carv_objects.specs.Laws.AreaSteps.{with_rows};
 
 use crate::accounts::{Booked, Carved};
 use crate::{Answer, Kind, KindCode, accounts, area, refused, subtree};

@@ -2,9 +2,9 @@
 ghost use Rattle.std.specs.Prelude.{◌≡◌, [], ◌∷◌, length};
 ghost use Rattle.carv_area.specs.Stored.{Stored};
 ghost use Rattle.carv_objects.specs.Area.{table, fields, Opened};
-ghost use Rattle.carv_objects.specs.laws.Rows.{row};
-ghost use Rattle.carv_objects.specs.laws.Formed.{Formed};
-ghost use Rattle.carv_objects.specs.laws.Opening.{rooted};
+ghost use Rattle.carv_objects.specs.Laws.Rows.{row};
+ghost use Rattle.carv_objects.specs.Laws.Formed.{Formed};
+ghost use Rattle.carv_objects.specs.Laws.Opening.{rooted};
 
 use crate::accounts::Booked;
 use crate::kinds::Kind;

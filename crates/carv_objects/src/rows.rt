@@ -3,7 +3,7 @@ ghost use Rattle.std.specs.Prelude.{◌≡◌, [], ◌∷◌, ◌++◌, ◌+◌,
 ghost use Rattle.carv_area.specs.Words.{words};
 ghost use Rattle.carv_area.specs.Stored.{Stored};
 ghost use Rattle.carv_objects.specs.Area.{fields, row_at, rows_in};
-ghost use Rattle.carv_objects.specs.laws.Rows.{row, set_account, set_row};
+ghost use Rattle.carv_objects.specs.Laws.Rows.{row, set_account, set_row};
 
 use carv_budget::Account;
 use carv_objects_spec::Entry;

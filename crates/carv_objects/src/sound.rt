@@ -1,12 +1,12 @@
 // Question 1: is a lent area of its length, and is the registry in it sound? Any bytes may be asked.
 // One walk over the rows: each row is tested by itself and against the rows before it, and what it takes is taken off its
 // payer's figures. These count down from the stored figure, so that no sum can wrap, and must end at 0.
-// specs/laws/SoundWalk.antt says what the walk knows at each row, and specs/laws/SoundBridge.antt that this is question 1.
+// specs/Laws/SoundWalk.antt says what the walk knows at each row, and specs/Laws/SoundBridge.antt that this is question 1.
 ghost use Rattle.std.specs.Prelude.{◌≡◌, ◌+◌, ◌*◌, ◌≤◌, ◌<◌, length, get_or};
 ghost use Rattle.carv_area.specs.Words.{words};
 ghost use Rattle.carv_area.specs.Zero.{all_zero};
 ghost use Rattle.carv_objects.specs.Area.{sound_area};
-ghost use Rattle.carv_objects.specs.laws.SoundWalk.{Tells, Plain, Rise, Place, Owner, Front, Walk, Whole, Turned, Took, ReservedFor, SoundTable};
+ghost use Rattle.carv_objects.specs.Laws.SoundWalk.{Tells, Plain, Rise, Place, Owner, Front, Walk, Whole, Turned, Took, ReservedFor, SoundTable};
 
 use crate::kinds::Kind;
 use crate::{area, rows};

@@ -1,14 +1,14 @@
 // P1: what is within a budget, and the totals over it. Rows stand by rising id and payers have lower ids, so one pass over the rows, which
-// marks each, has marked a row's payer when it comes to the row. specs/laws/TotalSteps.antt says what the pass knows at each row.
+// marks each, has marked a row's payer when it comes to the row. specs/Laws/TotalSteps.antt says what the pass knows at each row.
 ghost use Rattle.std.specs.Prelude.{◌≡◌, true, ◌<◌, length, get_or};
 ghost use Rattle.carv_area.specs.Lookup.{Here};
 ghost use Rattle.carv_objects_spec.specs.Registry.{has, is_budget};
 ghost use Rattle.carv_objects_spec.specs.Within.{within};
 ghost use Rattle.carv_objects_spec.specs.Totals.{totals};
 ghost use Rattle.carv_objects.specs.Area.{decode, sound_area};
-ghost use Rattle.carv_objects.specs.laws.Rows.{no_row};
-ghost use Rattle.carv_objects.specs.laws.Formed.{WellFormed};
-ghost use Rattle.carv_objects.specs.laws.TotalSteps.{Marked, Part};
+ghost use Rattle.carv_objects.specs.Laws.Rows.{no_row};
+ghost use Rattle.carv_objects.specs.Laws.Formed.{WellFormed};
+ghost use Rattle.carv_objects.specs.Laws.TotalSteps.{Marked, Part};
 
 use crate::{area, calls};
 use carv_area::Found;

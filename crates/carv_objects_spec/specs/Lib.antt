@@ -20,4 +20,3 @@ pub mod Runs
 pub mod Demand1
 pub mod Demand2
 pub mod Panics
-pub mod laws

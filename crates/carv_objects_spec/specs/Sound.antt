@@ -1,4 +1,4 @@
--- Document 01's soundness, for objects: a test that computes. specs/laws/SoundFacts.antt has the same as a record of facts. Assumes nothing.
+-- Document 01's soundness, for objects: a test that computes. proofs/Laws/SoundFacts.antt has the same as a record of facts. Assumes nothing.
 use Rattle.std.specs.Prelude.{Bool, true, cond, not, ◌&&◌, ◌||◌, List, [], ◌∷◌, ℕ, suc, eqb, ltb, leb, length}
 use Rattle.carv_area.specs.Table.{Row, at, total}
 use Rattle.carv_budget.specs.declared.Account.{Account}

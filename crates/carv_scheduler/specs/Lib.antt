@@ -5,4 +5,4 @@ pub mod Area
 pub mod Creating
 pub mod Image
 pub mod ExitRun
-pub mod laws
+pub mod Laws

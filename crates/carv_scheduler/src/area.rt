@@ -5,10 +5,10 @@ ghost use Rattle.carv_area.specs.Rows.{remove_at};
 ghost use Rattle.carv_area.specs.Lookup.{Located};
 ghost use Rattle.carv_scheduler_spec.specs.Scheduler.{woken, ticked};
 ghost use Rattle.carv_scheduler.specs.Area.{thread_fields, decode};
-ghost use Rattle.carv_scheduler.specs.laws.Rows.{row, no_row};
-ghost use Rattle.carv_scheduler.specs.laws.Formed.{WellFormed, Leaves};
-ghost use Rattle.carv_scheduler.specs.laws.RowWords.{with_state};
-ghost use Rattle.carv_scheduler.specs.laws.AreaSteps.{with_head, with_threads, with_queue, Placed, New};
+ghost use Rattle.carv_scheduler.specs.Laws.Rows.{row, no_row};
+ghost use Rattle.carv_scheduler.specs.Laws.Formed.{WellFormed, Leaves};
+ghost use Rattle.carv_scheduler.specs.Laws.RowWords.{with_state};
+ghost use Rattle.carv_scheduler.specs.Laws.AreaSteps.{with_head, with_threads, with_queue, Placed, New};
 
 use crate::rows;
 use carv_area::Found;

@@ -5,8 +5,8 @@ ghost use Rattle.carv_area.specs.Lookup.{Here};
 ghost use Rattle.carv_scheduler_spec.specs.Scheduler.{wait_listed, join, with_threads, is, blocked, has, create_user_thread, start, block_current, is_blocked_on, read_thread, read_current, read_switches};
 ghost use Rattle.carv_scheduler.specs.Area.{decode, sound_area, Serves};
 ghost use Rattle.carv_scheduler.specs.Creating.{Plain};
-ghost use Rattle.carv_scheduler.specs.laws.Rows.{no_row};
-ghost use Rattle.carv_scheduler.specs.laws.Formed.{WellFormed, Leaves};
+ghost use Rattle.carv_scheduler.specs.Laws.Rows.{no_row};
+ghost use Rattle.carv_scheduler.specs.Laws.Formed.{WellFormed, Leaves};
 
 use crate::numbers::{BLOCKED, FIRST, IDLE, INACTIVE, READY, RUNNING, SEND, SLEEP};
 use crate::{Answer, area, rows};

@@ -4,9 +4,9 @@ ghost use Rattle.carv_area.specs.Words.{words};
 ghost use Rattle.carv_area.specs.Stored.{Stored};
 ghost use Rattle.carv_scheduler_spec.specs.Scheduler.{logged, exit_in, exit_of};
 ghost use Rattle.carv_scheduler.specs.Area.{exit_fields, exit_at, exits_in, decode, sound_area, Serves};
-ghost use Rattle.carv_scheduler.specs.laws.Rows.{no_exit};
-ghost use Rattle.carv_scheduler.specs.laws.Formed.{WellFormed, Leaves};
-ghost use Rattle.carv_scheduler.specs.laws.ExitSteps.{exit, with_exits, spared};
+ghost use Rattle.carv_scheduler.specs.Laws.Rows.{no_exit};
+ghost use Rattle.carv_scheduler.specs.Laws.Formed.{WellFormed, Leaves};
+ghost use Rattle.carv_scheduler.specs.Laws.ExitSteps.{exit, with_exits, spared};
 ghost use Rattle.carv_scheduler.specs.ExitRun.{cause_of};
 
 use crate::{Answer, area};

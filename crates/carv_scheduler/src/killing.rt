@@ -5,11 +5,11 @@ ghost use Rattle.carv_area.specs.Keys.{find_in};
 ghost use Rattle.carv_scheduler_spec.specs.Scheduler.{cause_listed, without, kill};
 ghost use Rattle.carv_scheduler_spec.specs.Sound.{distinct};
 ghost use Rattle.carv_scheduler.specs.Area.{decode, sound_area, Serves};
-ghost use Rattle.carv_scheduler.specs.laws.Rows.{no_row};
-ghost use Rattle.carv_scheduler.specs.laws.Formed.{WellFormed, Leaves};
-ghost use Rattle.carv_scheduler.specs.laws.AreaSteps.{with_threads, with_queue};
-ghost use Rattle.carv_scheduler_spec.specs.laws.Questions.{killed};
-ghost use Rattle.carv_scheduler.specs.laws.KillSteps.{wait_answer};
+ghost use Rattle.carv_scheduler.specs.Laws.Rows.{no_row};
+ghost use Rattle.carv_scheduler.specs.Laws.Formed.{WellFormed, Leaves};
+ghost use Rattle.carv_scheduler.specs.Laws.AreaSteps.{with_threads, with_queue};
+ghost use Rattle.carv_scheduler_spec.specs.Killed.{killed};
+ghost use Rattle.carv_scheduler.specs.Laws.KillSteps.{wait_answer};
 
 use crate::numbers::{BLOCKED, DEAD, DESTROYED, FAULTED, IDLE};
 use crate::{Answer, area, exits, rows};

@@ -1,8 +1,8 @@
 // The opening: a new board over whatever the bytes held.
 ghost use Rattle.std.specs.Prelude.{◌≡◌, ◌≤◌, length};
 ghost use Rattle.carv_scheduler.specs.Area.{Opened};
-ghost use Rattle.carv_scheduler.specs.laws.Formed.{Leaves};
-ghost use Rattle.carv_scheduler.specs.laws.Opening.{Wiped, RegistryOpened, blank_board};
+ghost use Rattle.carv_scheduler.specs.Laws.Formed.{Leaves};
+ghost use Rattle.carv_scheduler.specs.Laws.Opening.{Wiped, RegistryOpened, blank_board};
 
 use crate::numbers::{FIRST, IDLE, READY, RUNNING};
 use crate::{Answer, area, rows};

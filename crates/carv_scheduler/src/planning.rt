@@ -3,10 +3,10 @@ ghost use Rattle.std.specs.Prelude.{◌≡◌, ◌+◌, ◌%◌, ◌^◌, ◌<�
 ghost use Rattle.carv_area.specs.Lookup.{Located};
 ghost use Rattle.carv_scheduler_spec.specs.Scheduler.{is, dead, thread, plan};
 ghost use Rattle.carv_scheduler.specs.Area.{decode, sound_area, Serves};
-ghost use Rattle.carv_scheduler.specs.laws.Rows.{no_row};
-ghost use Rattle.carv_scheduler.specs.laws.Formed.{WellFormed, Leaves};
-ghost use Rattle.carv_scheduler.specs.laws.AreaSteps.{with_head};
-ghost use Rattle.carv_scheduler.specs.laws.Planning.{Renewing, guess_behind, Tests, Tries, Walks, Chooses, Backs, Values, Runs, Leaving, Switches};
+ghost use Rattle.carv_scheduler.specs.Laws.Rows.{no_row};
+ghost use Rattle.carv_scheduler.specs.Laws.Formed.{WellFormed, Leaves};
+ghost use Rattle.carv_scheduler.specs.Laws.AreaSteps.{with_head};
+ghost use Rattle.carv_scheduler.specs.Laws.Planning.{Renewing, guess_behind, Tests, Tries, Walks, Chooses, Backs, Values, Runs, Leaving, Switches};
 
 use crate::numbers::{DEAD, IDLE, LAST_TICK, READY, RUNNING, TICK};
 use crate::{Answer, area, rows};

@@ -3,7 +3,7 @@ ghost use Rattle.std.specs.Prelude.{◌≡◌, true};
 ghost use Rattle.carv_objects_spec.specs.Registry.{create, insert, create_budget, charge_more, uncharge, remove, refill, charge_cpu, pays_for_anything, read_account, charge_of};
 ghost use Rattle.carv_objects_spec.specs.Totals.{read_totals};
 ghost use Rattle.carv_scheduler.specs.Area.{sound_area};
-ghost use Rattle.carv_scheduler.specs.laws.OnRegistry.{ServesRegistry};
+ghost use Rattle.carv_scheduler.specs.Laws.OnRegistry.{ServesRegistry};
 
 use crate::area;
 use carv_objects::{Answer, calls};

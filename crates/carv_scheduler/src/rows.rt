@@ -4,7 +4,7 @@ ghost use Rattle.carv_area.specs.Words.{words};
 ghost use Rattle.carv_area.specs.Moves.{open_row};
 ghost use Rattle.carv_scheduler_spec.specs.Scheduler.{fresh};
 ghost use Rattle.carv_scheduler.specs.Area.{wait_at, budget_id_at, spaces_at, context_at, results_at, thread_at};
-ghost use Rattle.carv_scheduler.specs.laws.Rows.{row, set_state, set_start, set_spaces, set_context, set_results, set_ticks, set_end, set_woken, set_thread};
+ghost use Rattle.carv_scheduler.specs.Laws.Rows.{row, set_state, set_start, set_spaces, set_context, set_results, set_ticks, set_end, set_woken, set_thread};
 
 use crate::numbers::READY;
 use carv_scheduler_spec::{BudgetId, Context, Results, Spaces, Thread, Wait};

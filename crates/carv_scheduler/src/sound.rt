@@ -1,14 +1,14 @@
 // Question 1: is a lent area of its length, and is the board in it sound? Any bytes may be asked.
 // carv_objects asks it of the registry's part. Then three walks: over the threads' ids, which must rise; over the queue, which
 // marks the place of each id; and over the threads, each of which is tested by itself and by its mark.
-// specs/laws/SoundWalk.antt says what the walks know, and specs/laws/SoundBridge.antt that this is question 1.
+// specs/Laws/SoundWalk.antt says what the walks know, and specs/Laws/SoundBridge.antt that this is question 1.
 ghost use Rattle.std.specs.Prelude.{◌≡◌, ◌+◌, ◌*◌, ◌<◌, ◌≤◌, length, slice_index};
 ghost use Rattle.carv_area.specs.Words.{words};
 ghost use Rattle.carv_area.specs.Stored.{Keyed};
-ghost use Rattle.carv_objects.specs.laws.SoundWalk.{Tells};
+ghost use Rattle.carv_objects.specs.Laws.SoundWalk.{Tells};
 ghost use Rattle.carv_scheduler_spec.specs.Sound.{unpaid};
 ghost use Rattle.carv_scheduler.specs.Area.{sound_area};
-ghost use Rattle.carv_scheduler.specs.laws.SoundWalk.{wait_fits, budget_fits, space_fits, state_fits, Ordered, Fits, Fit, Current, Idle, Walk, Turned, Walked, SoundThreads, SoundTables, SoundExits, SoundParts};
+ghost use Rattle.carv_scheduler.specs.Laws.SoundWalk.{wait_fits, budget_fits, space_fits, state_fits, Ordered, Fits, Fit, Current, Idle, Walk, Turned, Walked, SoundThreads, SoundTables, SoundExits, SoundParts};
 
 use crate::numbers::{BLOCKED, DEAD, FIRST, IDLE, INACTIVE, READY, RUNNING};
 use crate::{area, calls, exits, killing, rows};

@@ -5,10 +5,10 @@ ghost use Rattle.carv_area.specs.Lookup.{Here};
 ghost use Rattle.carv_objects_spec.specs.Registry.{charge_most};
 ghost use Rattle.carv_scheduler_spec.specs.Scheduler.{blocked, is, is_due, with_registry, wake, wake_all, tick};
 ghost use Rattle.carv_scheduler.specs.Area.{decode, sound_area, Is, Serves};
-ghost use Rattle.carv_scheduler.specs.laws.Rows.{no_row};
-ghost use Rattle.carv_scheduler.specs.laws.Formed.{WellFormed, Leaves};
-ghost use Rattle.carv_scheduler.specs.laws.Waking.{wake_place};
-ghost use Rattle.carv_scheduler.specs.laws.Ticking.{accounted};
+ghost use Rattle.carv_scheduler.specs.Laws.Rows.{no_row};
+ghost use Rattle.carv_scheduler.specs.Laws.Formed.{WellFormed, Leaves};
+ghost use Rattle.carv_scheduler.specs.Laws.Waking.{wake_place};
+ghost use Rattle.carv_scheduler.specs.Laws.Ticking.{accounted};
 
 use crate::numbers::{BLOCKED, LAST_TICK, SLEEP, TICK};
 use crate::{Answer, area, rows};

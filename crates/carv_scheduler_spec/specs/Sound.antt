@@ -1,4 +1,4 @@
--- Document 01's soundness of a board: a test that computes. specs/laws/SoundFacts.antt has the same as a record of facts. Assumes nothing.
+-- Document 01's soundness of a board: a test that computes. proofs/Laws/SoundFacts.antt has the same as a record of facts. Assumes nothing.
 use Rattle.std.specs.Prelude.{Bool, true, false, cond, not, ◌&&◌, ◌||◌, List, [], ◌∷◌, ℕ, ◌^◌, eqb, leb, length}
 use Rattle.carv_objects_spec.specs.Sound as objects
 use Rattle.carv_objects_spec.specs.Sound.{all, every, rises}

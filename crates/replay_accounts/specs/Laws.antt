@@ -4,7 +4,7 @@ use Rattle.std.proofs.Common.{add-one, arith, eqb-true, eq-eqb, ne_eqb}
 use Rattle.carv_budget.specs.declared.Account.{Account}
 use Rattle.carv_budget.specs.declared.Outcome.{Outcome}
 use Rattle.carv_budget.specs.Account.{number, blank, with_memory}
-use Rattle.carv_budget.specs.laws.Account.{both, first, second}
+use Rattle.carv_budget.proofs.Laws.Account.{both, first, second}
 use Rattle.replay_accounts.specs.declared.record.Call.{Call}
 use Rattle.replay_accounts.specs.declared.record.Reply.{Reply}
 use Rattle.replay_accounts.specs.Record.{call, reply}

@@ -8,7 +8,7 @@ use Rattle.std.proofs.Math.ListN.{get_or}
 use Rattle.std.proofs.Math.Seq.{ext_get_or}
 use borrow.Author.Tests.{lt-ltb, le-ltb}
 use Rattle.carv_area.specs.Lists.{tab}
-use Rattle.carv_area.specs.laws.Lists.{length_tab, get_or_tab, same_or_not}
+use Rattle.carv_area.specs.Laws.Lists.{length_tab, get_or_tab, same_or_not}
 use Rattle.replay_records.specs.Word.{word}
 use Rattle.replay_board.specs.declared.record.Call.{Call}
 use Rattle.replay_board.specs.Record.{call, unwritten, recorded_word, recorded, Tells}

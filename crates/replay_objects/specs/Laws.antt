@@ -1,9 +1,9 @@
 -- The laws of `Replay`: that the test of equality tells equality, which op is not listed, and one record more. Assumes nothing.
 use Rattle.std.specs.Prelude.{Bool, true, false, cond, ◌&&◌, List, ◌≡◌, refl, ℕ, ◌+◌, ◌*◌, ◌≤◌, leb}
 use Rattle.std.proofs.Common.{sym, ap, ◌∙◌, arith, eqb-true, eq-eqb, leb-true}
-use Rattle.carv_budget.specs.laws.Account.{both, first, second}
+use Rattle.carv_budget.proofs.Laws.Account.{both, first, second}
 use Rattle.carv_objects.specs.declared.Answer.{Answer}
-use Rattle.replay_records.specs.laws.Replayed as replayed
+use Rattle.replay_records.proofs.Laws.Replayed as replayed
 use Rattle.replay_objects.specs.declared.record.Call.{Call}
 use Rattle.replay_objects.specs.declared.record.Reply.{Reply}
 use Rattle.replay_objects.specs.Record.{call, reply}

@@ -3,4 +3,3 @@
 pub mod Word
 pub mod Tally
 pub mod Replayed
-pub mod laws

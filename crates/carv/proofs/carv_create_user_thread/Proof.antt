@@ -1,6 +1,6 @@
 -- `carv::carv_create_user_thread` meets its contract. Assumes nothing.
 use borrow.Author.Rules.{rules}
-use Rattle.carv.specs.laws.Reporting.{c_created_size, c_created}
+use Rattle.carv.proofs.Laws.Reporting.{c_created_size, c_created}
 use Rattle.carv.proofs.carv_create_user_thread.Statement.{statement}
 use Rattle.carv.proofs.carv_create_user_thread.Tie as tie
 

@@ -1,6 +1,6 @@
 -- `carv::carv_plan` meets its contract. Assumes nothing.
 use borrow.Author.Rules.{rules}
-use Rattle.carv.specs.laws.Reporting.{returned_one, returned}
+use Rattle.carv.proofs.Laws.Reporting.{returned_one, returned}
 use Rattle.carv.proofs.carv_plan.Statement.{statement}
 use Rattle.carv.proofs.carv_plan.Tie as tie
 

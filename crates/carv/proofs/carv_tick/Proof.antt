@@ -1,6 +1,6 @@
 -- `carv::carv_tick` meets its contract. Assumes nothing.
 use borrow.Author.Rules.{rules}
-use Rattle.carv.specs.laws.Reporting.{returned_one, returned}
+use Rattle.carv.proofs.Laws.Reporting.{returned_one, returned}
 use Rattle.carv.proofs.carv_tick.Statement.{statement}
 use Rattle.carv.proofs.carv_tick.Tie as tie
 

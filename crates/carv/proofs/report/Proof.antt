@@ -3,7 +3,7 @@ use borrow.Author.Rules.{rules}
 use mathlib.Core.Path.{refl}
 use native.Mathlib.Omega.{arith}
 use lib.ListN.{length-set}
-use Rattle.carv.specs.laws.Reporting.{reported_as}
+use Rattle.carv.proofs.Laws.Reporting.{reported_as}
 use Rattle.carv.proofs.report.Statement.{statement}
 use Rattle.carv.proofs.report.Tie as tie
 

@@ -1,7 +1,7 @@
 -- `carv::report_registry` meets its contract. Assumes nothing.
 use borrow.Author.Rules.{rules}
 use mathlib.Core.Path.{refl}
-use Rattle.carv.specs.laws.Reporting.{registry_reported_as}
+use Rattle.carv.proofs.Laws.Reporting.{registry_reported_as}
 use Rattle.carv.proofs.report_registry.Statement.{statement}
 use Rattle.carv.proofs.report_registry.Tie as tie
 

@@ -5,9 +5,9 @@ use Prim.Native.Nat.{◌-◌, ◌≤◌}
 use lib.ListN.{length}
 use lib.Seq.{paste, paste-zero}
 use Rattle.carv_area.specs.Words.{words, Writes}
-use Rattle.carv_area.specs.laws.Words.{length_words}
+use Rattle.carv_area.specs.Laws.Words.{length_words}
 use Rattle.carv_area.specs.Moves.{zeros}
-use Rattle.carv_area.specs.laws.Moves.{wipe_more}
+use Rattle.carv_area.specs.Laws.Moves.{wipe_more}
 use borrow.Author.Rules.{rules}
 use Rattle.carv_area.proofs.clear.Statement.{statement}
 use Rattle.carv_area.proofs.clear.Tie as tie

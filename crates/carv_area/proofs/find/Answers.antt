@@ -1,8 +1,8 @@
 -- `carv_area::find` meets its contract. Assumes nothing.
 use native.Mathlib.Omega.{arith}
 use mathlib.Core.Path.{◌∙◌, sym}
-use Rattle.carv_area.specs.laws.Keys.{find_there}
-use Rattle.carv_area.specs.laws.Search.{absent}
+use Rattle.carv_area.specs.Laws.Keys.{find_there}
+use Rattle.carv_area.specs.Laws.Search.{absent}
 use borrow.Author.Rules.{rules}
 use Rattle.carv_area.proofs.find.Goals as goal
 

@@ -1,7 +1,7 @@
 -- `carv_area::find_near` meets its contract. Assumes nothing.
 use native.Mathlib.Omega.{arith}
 use mathlib.Core.Path.{◌∙◌, sym}
-use Rattle.carv_area.specs.laws.Keys.{find_there}
+use Rattle.carv_area.specs.Laws.Keys.{find_there}
 use borrow.Author.Rules.{rules}
 use Rattle.carv_area.proofs.find_near.Goals as goal
 

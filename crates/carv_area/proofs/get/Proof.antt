@@ -1,6 +1,6 @@
 -- `carv_area::get` meets its contract. Assumes nothing.
 use borrow.Author.Rules.{rules}
-use Rattle.carv_area.specs.laws.Words.{get_of}
+use Rattle.carv_area.specs.Laws.Words.{get_of}
 use Rattle.carv_area.proofs.get.Statement.{statement}
 use Rattle.carv_area.proofs.get.Tie as tie
 

@@ -2,7 +2,7 @@
 use lib.ListN.{get_or}
 use Rattle.carv_area.specs.Words.{words}
 use Rattle.carv_area.specs.Moves.{open_row}
-use Rattle.carv_area.specs.laws.Search.{rows_cut, rows_few}
+use Rattle.carv_area.specs.Laws.Search.{rows_cut, rows_few}
 use borrow.Author.Rules.{rules}
 use Rattle.carv_area.proofs.insert_row.Goals as goal
 

@@ -3,8 +3,8 @@ use mathlib.Core.Path.{◌∙◌, sym}
 use native.Mathlib.Omega.{arith}
 use lib.ListN.{get_or}
 use Rattle.carv_area.specs.Words.{words}
-use Rattle.carv_area.specs.laws.Keys.{get_or_keys}
-use Rattle.carv_area.specs.laws.Search.{row_within}
+use Rattle.carv_area.specs.Laws.Keys.{get_or_keys}
+use Rattle.carv_area.specs.Laws.Search.{row_within}
 use borrow.Author.Rules.{rules}
 use Rattle.carv_area.proofs.key.Statement.{statement}
 use Rattle.carv_area.proofs.key.Tie as tie

@@ -1,6 +1,6 @@
 -- `carv_area::pull` meets its contract. Assumes nothing.
 use mathlib.Core.Path.{◌∙◌}
-use Rattle.carv_area.specs.laws.Stored.{queue_at, queue_pull}
+use Rattle.carv_area.specs.Laws.Stored.{queue_at, queue_pull}
 use Rattle.carv_area.proofs.pull.Goals as goal
 
 pub returns : goal.returns

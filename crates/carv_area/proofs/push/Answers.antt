@@ -1,6 +1,6 @@
 -- `carv_area::push` meets its contract. Assumes nothing.
 use native.Mathlib.Omega.{arith}
-use Rattle.carv_area.specs.laws.Stored.{queue_push}
+use Rattle.carv_area.specs.Laws.Stored.{queue_push}
 use Rattle.carv_area.proofs.push.Goals as goal
 
 pub returns : goal.returns

@@ -1,6 +1,6 @@
 -- `carv_area::put` meets its contract. Assumes nothing.
 use borrow.Author.Rules.{rules}
-use Rattle.carv_area.specs.laws.Words.{put_of}
+use Rattle.carv_area.specs.Laws.Words.{put_of}
 use Rattle.carv_area.proofs.put.Statement.{statement}
 use Rattle.carv_area.proofs.put.Tie as tie
 

@@ -1,7 +1,7 @@
 -- `carv_area::rank` meets its contract. Assumes nothing.
 use native.Mathlib.Omega.{arith}
 use mathlib.Core.Path.{◌∙◌, sym}
-use Rattle.carv_area.specs.laws.Search.{rank_none, rank_first, rank_last, window, window_some}
+use Rattle.carv_area.specs.Laws.Search.{rank_none, rank_first, rank_last, window, window_some}
 use borrow.Author.Rules.{rules}
 use Rattle.carv_area.proofs.rank.Goals as goal
 

@@ -1,6 +1,6 @@
 -- `carv_area::remove_row` meets its contract. Assumes nothing.
 use Rattle.carv_area.specs.Moves.{cut_row}
-use Rattle.carv_area.specs.laws.Search.{row_cut}
+use Rattle.carv_area.specs.Laws.Search.{row_cut}
 use borrow.Author.Rules.{rules}
 use Rattle.carv_area.proofs.remove_row.Goals as goal
 

@@ -5,8 +5,8 @@ use Prim.Native.Nat.{◌+◌}
 use lib.ListN.{drop}
 use lib.Seq.{paste-zero}
 use Rattle.carv_area.specs.Words.{words}
-use Rattle.carv_area.specs.laws.Words.{length_words}
-use Rattle.carv_area.specs.laws.Moves.{down_more}
+use Rattle.carv_area.specs.Laws.Words.{length_words}
+use Rattle.carv_area.specs.Laws.Moves.{down_more}
 use borrow.Author.Rules.{rules}
 use Rattle.carv_area.proofs.shift_down.Goals as goal
 

@@ -3,8 +3,8 @@ use native.Mathlib.Omega.{arith}
 use mathlib.Core.Path.{refl}
 use Prim.Native.Nat.{◌-◌}
 use Rattle.carv_area.specs.Words.{words}
-use Rattle.carv_area.specs.laws.Words.{length_words}
-use Rattle.carv_area.specs.laws.Moves.{up_more, up_none, up_done}
+use Rattle.carv_area.specs.Laws.Words.{length_words}
+use Rattle.carv_area.specs.Laws.Moves.{up_more, up_none, up_done}
 use borrow.Author.Rules.{rules}
 use Rattle.carv_area.proofs.shift_up.Goals as goal
 

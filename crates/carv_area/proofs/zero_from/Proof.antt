@@ -6,9 +6,9 @@ use Prim.Native.Nat.{◌-◌}
 use lib.ListN.{drop}
 use lib.Dec.{eqb}
 use Rattle.carv_area.specs.Words.{words}
-use Rattle.carv_area.specs.laws.Words.{length_words}
+use Rattle.carv_area.specs.Laws.Words.{length_words}
 use Rattle.carv_area.specs.Zero.{all_zero}
-use Rattle.carv_area.specs.laws.Zero.{zero_more, zero_done}
+use Rattle.carv_area.specs.Laws.Zero.{zero_more, zero_done}
 use borrow.Author.Rules.{rules}
 use Rattle.carv_area.proofs.zero_from.Statement.{statement}
 use Rattle.carv_area.proofs.zero_from.Tie as tie

@@ -1,7 +1,7 @@
 -- `carv_register_image::fill_image` meets its contract. Assumes nothing.
 use borrow.Author.Rules.{rules}
 use mathlib.Core.Path.{◌∙◌}
-use Rattle.carv_register_image.specs.laws.Image.{after_all}
+use Rattle.carv_register_image.proofs.Laws.Image.{after_all}
 use Rattle.carv_register_image.proofs.fill_image.Statement.{statement}
 use Rattle.carv_register_image.proofs.fill_image.Tie as tie
 

@@ -1,7 +1,7 @@
 -- `carv_register_image::step` meets its contract. Assumes nothing.
 use borrow.Author.Rules.{rules}
 use mathlib.Core.Path.{◌∙◌}
-use Rattle.carv_register_image.specs.laws.Image.{step_is}
+use Rattle.carv_register_image.proofs.Laws.Image.{step_is}
 use Rattle.carv_register_image.proofs.step.Goals as goal
 
 pub returns : goal.returns

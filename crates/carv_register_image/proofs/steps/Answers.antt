@@ -6,7 +6,7 @@ use mathlib.Core.Path.{◌≡◌, sym, ◌∙◌}
 use lib.ListN.{length}
 use borrow.Author.Rules.{rules}
 use Rattle.carv_register_image.specs.Image.{after_step}
-use Rattle.carv_register_image.specs.laws.Image.{after_none, so_far, one_more}
+use Rattle.carv_register_image.proofs.Laws.Image.{after_none, so_far, one_more}
 use Rattle.carv_register_image.proofs.steps.Goals as goal
 
 pub loop-k-init : goal.loop-k-init

@@ -1,7 +1,7 @@
 -- `carv_register_image::word_at` meets its contract. Assumes nothing.
 use mathlib.Core.Path.{refl}
 use native.Mathlib.Omega.{arith}
-use Rattle.carv_register_image.specs.laws.Image.{image_words, other_word}
+use Rattle.carv_register_image.proofs.Laws.Image.{image_words, other_word}
 use Rattle.carv_register_image.proofs.word_at.Goals as goal
 
 pub returns-in-0 : goal.returns-in-0

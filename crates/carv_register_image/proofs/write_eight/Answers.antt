@@ -1,7 +1,7 @@
 -- `carv_register_image::write_eight` meets its contract. Assumes nothing.
 use borrow.Author.Rules.{rules}
 use native.Mathlib.Omega.{arith}
-use Rattle.carv_register_image.specs.laws.Image.{written}
+use Rattle.carv_register_image.proofs.Laws.Image.{written}
 use Rattle.carv_register_image.proofs.write_eight.Goals as goal
 
 pub returns : goal.returns

@@ -1,7 +1,7 @@
 -- `carv_scheduler::charge_of` meets its contract. Assumes nothing.
 use Rattle.std.proofs.Common.{rules}
-use Rattle.carv_scheduler.specs.laws.Entry.{entry_refused, entry_sound, entry_served}
-use Rattle.carv_scheduler.specs.laws.OnRegistry.{registry_serves}
+use Rattle.carv_scheduler.specs.Laws.Entry.{entry_refused, entry_sound, entry_served}
+use Rattle.carv_scheduler.specs.Laws.OnRegistry.{registry_serves}
 use Rattle.carv_objects_spec.specs.Registry.{charge_of}
 use Rattle.carv_scheduler.proofs.charge_of.Statement.{statement}
 use Rattle.carv_scheduler.proofs.charge_of.Tie as tie

@@ -1,6 +1,6 @@
 -- `carv_scheduler::create_user_thread` meets its contract. Assumes nothing.
 use Rattle.std.proofs.Common.{rules}
-use Rattle.carv_scheduler.specs.laws.Creation.{created_size, created_filled, created_refused}
+use Rattle.carv_scheduler.specs.Laws.Creation.{created_size, created_filled, created_refused}
 use Rattle.carv_scheduler.proofs.create_user_thread.Statement.{statement}
 use Rattle.carv_scheduler.proofs.create_user_thread.Tie as tie
 

@@ -1,6 +1,6 @@
 -- `carv_scheduler::created` meets its contract. Assumes nothing.
 use Rattle.std.proofs.Common.{refl, rules}
-use Rattle.carv_scheduler.specs.laws.Entry.{entry_refused, entry_sound, entry_served}
+use Rattle.carv_scheduler.specs.Laws.Entry.{entry_refused, entry_sound, entry_served}
 use Rattle.carv_scheduler.proofs.created.Statement.{statement}
 use Rattle.carv_scheduler.proofs.created.Tie as tie
 

@@ -1,6 +1,6 @@
 -- `carv_scheduler::exit_of` meets its contract. Assumes nothing.
 use Rattle.std.proofs.Common.{rules}
-use Rattle.carv_scheduler.specs.laws.Entry.{entry_refused, entry_sound, entry_served}
+use Rattle.carv_scheduler.specs.Laws.Entry.{entry_refused, entry_sound, entry_served}
 use Rattle.carv_scheduler.proofs.exit_of.Statement.{statement}
 use Rattle.carv_scheduler.proofs.exit_of.Tie as tie
 

@@ -1,7 +1,7 @@
 -- `carv_scheduler::refill` meets its contract. Assumes nothing.
 use Rattle.std.proofs.Common.{rules}
-use Rattle.carv_scheduler.specs.laws.Entry.{entry_refused, entry_sound, entry_served}
-use Rattle.carv_scheduler.specs.laws.OnRegistry.{registry_serves}
+use Rattle.carv_scheduler.specs.Laws.Entry.{entry_refused, entry_sound, entry_served}
+use Rattle.carv_scheduler.specs.Laws.OnRegistry.{registry_serves}
 use Rattle.carv_objects_spec.specs.Registry.{refill}
 use Rattle.carv_scheduler.proofs.refill.Statement.{statement}
 use Rattle.carv_scheduler.proofs.refill.Tie as tie

@@ -1,6 +1,6 @@
 -- `carv_scheduler::switches` meets its contract. Assumes nothing.
 use Rattle.std.proofs.Common.{rules}
-use Rattle.carv_scheduler.specs.laws.Entry.{entry_refused, entry_sound, entry_served}
+use Rattle.carv_scheduler.specs.Laws.Entry.{entry_refused, entry_sound, entry_served}
 use Rattle.carv_scheduler.proofs.switches.Statement.{statement}
 use Rattle.carv_scheduler.proofs.switches.Tie as tie
 

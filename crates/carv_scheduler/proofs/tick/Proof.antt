@@ -1,6 +1,6 @@
 -- `carv_scheduler::tick` meets its contract. Assumes nothing.
 use Rattle.std.proofs.Common.{rules}
-use Rattle.carv_scheduler.specs.laws.Entry.{entry_refused, entry_sound, entry_served}
+use Rattle.carv_scheduler.specs.Laws.Entry.{entry_refused, entry_sound, entry_served}
 use Rattle.carv_scheduler.proofs.tick.Statement.{statement}
 use Rattle.carv_scheduler.proofs.tick.Tie as tie
 

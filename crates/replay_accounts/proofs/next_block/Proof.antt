@@ -1,6 +1,6 @@
 -- `replay_accounts::next_block` meets its contract. Assumes nothing.
 use borrow.Author.Rules.{rules}
-use Rattle.replay_records.specs.laws.Tally.{counted}
+use Rattle.replay_records.proofs.Laws.Tally.{counted}
 use Rattle.replay_accounts.proofs.next_block.Statement.{statement}
 use Rattle.replay_accounts.proofs.next_block.Tie as tie
 

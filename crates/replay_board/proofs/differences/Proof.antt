@@ -7,7 +7,7 @@ use native.Mathlib.Omega.{arith}
 use lib.ListN.{length}
 use borrow.Author.Rules.{rules}
 use Rattle.replay_records.specs.Replayed.{Replayed}
-use Rattle.replay_records.specs.laws.Replayed.{one_more, one_wrong, one_right, all_done}
+use Rattle.replay_records.proofs.Laws.Replayed.{one_more, one_wrong, one_right, all_done}
 use Rattle.replay_board.specs.Replay.{Replays}
 use Rattle.replay_board.proofs.differences.Statement.{statement}
 use Rattle.replay_board.proofs.differences.Tie as tie

@@ -7,7 +7,7 @@ use native.Mathlib.Omega.{arith}
 use lib.ListN.{length}
 use borrow.Author.Rules.{rules}
 use Rattle.replay_records.specs.Replayed.{Replayed}
-use Rattle.replay_records.specs.laws.Replayed.{one_wrong, one_right, all_done}
+use Rattle.replay_records.proofs.Laws.Replayed.{one_wrong, one_right, all_done}
 use Rattle.replay_objects.specs.Replay.{Replays}
 use Rattle.replay_objects.specs.Laws.{one_more}
 use Rattle.replay_objects.proofs.differences.Statement.{statement}

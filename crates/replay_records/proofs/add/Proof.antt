@@ -1,7 +1,7 @@
 -- `replay_records::add` meets its contract. Assumes nothing.
 use borrow.Author.Rules.{rules}
 use mathlib.Core.Path.{sym, ◌∙◌}
-use Rattle.replay_records.specs.laws.Tally.{records_few, added_full, added_last}
+use Rattle.replay_records.proofs.Laws.Tally.{records_few, added_full, added_last}
 use Rattle.replay_records.proofs.add.Statement.{statement}
 use Rattle.replay_records.proofs.add.Tie as tie
 

@@ -5,7 +5,7 @@ use Prim.Native.Nat.{ℕ}
 use lib.ListN.{length, take}
 use lib.Seq.{length-take-le}
 use native.Mathlib.Omega.{arith}
-use Rattle.replay_records.specs.laws.Tally.{behind_kept, block_fits}
+use Rattle.replay_records.proofs.Laws.Tally.{behind_kept, block_fits}
 use Rattle.replay_records.proofs.read_block.Statement.{statement}
 use Rattle.replay_records.proofs.read_block.Tie as tie
 

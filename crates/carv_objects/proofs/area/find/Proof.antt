@@ -1,7 +1,7 @@
 -- `carv_objects::area::find` meets its contract. Assumes nothing.
 use borrow.Author.Rules.{rules}
 use Rattle.carv_objects.specs.Area.{table}
-use Rattle.carv_objects.specs.laws.AreaSteps.{table_keyed, found_is}
+use Rattle.carv_objects.specs.Laws.AreaSteps.{table_keyed, found_is}
 use Rattle.carv_objects.proofs.area.find.Statement.{statement}
 use Rattle.carv_objects.proofs.area.find.Tie as tie
 

@@ -2,7 +2,7 @@
 use borrow.Author.Rules.{rules}
 use native.Mathlib.Omega.{arith}
 use Rattle.carv_objects.specs.Area.{table}
-use Rattle.carv_objects.specs.laws.AreaSteps.{entry_room, payer_is}
+use Rattle.carv_objects.specs.Laws.AreaSteps.{entry_room, payer_is}
 use Rattle.carv_objects.proofs.area.payer_at.Statement.{statement}
 use Rattle.carv_objects.proofs.area.payer_at.Tie as tie
 

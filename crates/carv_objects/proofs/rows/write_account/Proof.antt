@@ -1,7 +1,7 @@
 -- `carv_objects::rows::write_account` meets its contract. Assumes nothing.
 use borrow.Author.Rules.{rules}
 use native.Mathlib.Numerals.{towards_numerals}
-use Rattle.carv_objects.specs.laws.Rows.{set_account}
+use Rattle.carv_objects.specs.Laws.Rows.{set_account}
 use Rattle.carv_objects.proofs.rows.write_account.Statement.{statement}
 use Rattle.carv_objects.proofs.rows.write_account.Tie as tie
 

@@ -1,8 +1,8 @@
 -- `carv_scheduler::area::add_tick` meets its contract. Assumes nothing.
 use Rattle.std.proofs.Common.{refl, ◌∙◌, rules}
 use Rattle.carv_scheduler.specs.Area.{threads_part}
-use Rattle.carv_scheduler.specs.laws.AreaSteps.{length_threads, thread_room}
-use Rattle.carv_scheduler.specs.laws.RowWords.{thread_ticked}
+use Rattle.carv_scheduler.specs.Laws.AreaSteps.{length_threads, thread_room}
+use Rattle.carv_scheduler.specs.Laws.RowWords.{thread_ticked}
 use Rattle.carv_scheduler.proofs.area.add_tick.Statement.{statement}
 use Rattle.carv_scheduler.proofs.area.add_tick.Tie as tie
 

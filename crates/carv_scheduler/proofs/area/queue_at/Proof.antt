@@ -1,8 +1,8 @@
 -- `carv_scheduler::area::queue_at` meets its contract. Assumes nothing.
 use Rattle.std.proofs.Common.{◌∙◌, arith, rules}
-use Rattle.carv_area.specs.laws.Stored.{queue_at}
+use Rattle.carv_area.specs.Laws.Stored.{queue_at}
 use Rattle.carv_scheduler.specs.Area.{queue_part}
-use Rattle.carv_scheduler.specs.laws.AreaSteps.{queue_room}
+use Rattle.carv_scheduler.specs.Laws.AreaSteps.{queue_room}
 use Rattle.carv_scheduler.proofs.area.queue_at.Statement.{statement}
 use Rattle.carv_scheduler.proofs.area.queue_at.Tie as tie
 

@@ -1,7 +1,7 @@
 -- `carv_scheduler::area::queue_length` meets its contract. Assumes nothing.
 use Rattle.std.proofs.Common.{rules}
 use Rattle.carv_scheduler.specs.Area.{queue_part}
-use Rattle.carv_scheduler.specs.laws.AreaSteps.{queue_count}
+use Rattle.carv_scheduler.specs.Laws.AreaSteps.{queue_count}
 use Rattle.carv_scheduler.proofs.area.queue_length.Statement.{statement}
 use Rattle.carv_scheduler.proofs.area.queue_length.Tie as tie
 

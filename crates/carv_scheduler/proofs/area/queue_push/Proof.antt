@@ -1,8 +1,8 @@
 -- `carv_scheduler::area::queue_push` meets its contract. Assumes nothing.
 use Rattle.std.proofs.Common.{◌∙◌, arith, rules}
 use Rattle.carv_scheduler.specs.Area.{queue_part}
-use Rattle.carv_scheduler.specs.laws.Formed.{queue_written}
-use Rattle.carv_scheduler.specs.laws.AreaSteps.{length_queue}
+use Rattle.carv_scheduler.specs.Laws.Formed.{queue_written}
+use Rattle.carv_scheduler.specs.Laws.AreaSteps.{length_queue}
 use Rattle.carv_scheduler.proofs.area.queue_push.Statement.{statement}
 use Rattle.carv_scheduler.proofs.area.queue_push.Tie as tie
 

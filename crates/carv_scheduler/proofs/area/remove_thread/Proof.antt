@@ -1,7 +1,7 @@
 -- `carv_scheduler::area::remove_thread` meets its contract. Assumes nothing.
 use Rattle.std.proofs.Common.{◌∙◌, rules}
 use Rattle.carv_scheduler.specs.Area.{threads_part}
-use Rattle.carv_scheduler.specs.laws.AreaSteps.{length_threads, threads_room, thread_counted, thread_removed}
+use Rattle.carv_scheduler.specs.Laws.AreaSteps.{length_threads, threads_room, thread_counted, thread_removed}
 use Rattle.carv_scheduler.proofs.area.remove_thread.Statement.{statement}
 use Rattle.carv_scheduler.proofs.area.remove_thread.Tie as tie
 

@@ -1,8 +1,8 @@
 -- `carv_scheduler::area::set_woken` meets its contract. Assumes nothing.
 use Rattle.std.proofs.Common.{◌∙◌, rules}
 use Rattle.carv_scheduler.specs.Area.{threads_part}
-use Rattle.carv_scheduler.specs.laws.AreaSteps.{length_threads, thread_room}
-use Rattle.carv_scheduler.specs.laws.RowWords.{thread_woken}
+use Rattle.carv_scheduler.specs.Laws.AreaSteps.{length_threads, thread_room}
+use Rattle.carv_scheduler.specs.Laws.RowWords.{thread_woken}
 use Rattle.carv_scheduler.proofs.area.set_woken.Statement.{statement}
 use Rattle.carv_scheduler.proofs.area.set_woken.Tie as tie
 

@@ -1,7 +1,7 @@
 -- `carv_scheduler::area::thread_id` meets its contract. Assumes nothing.
 use Rattle.std.proofs.Common.{arith, rules}
 use Rattle.carv_scheduler.specs.Area.{threads_part}
-use Rattle.carv_scheduler.specs.laws.AreaSteps.{thread_room, thread_id_is}
+use Rattle.carv_scheduler.specs.Laws.AreaSteps.{thread_room, thread_id_is}
 use Rattle.carv_scheduler.proofs.area.thread_id.Statement.{statement}
 use Rattle.carv_scheduler.proofs.area.thread_id.Tie as tie
 

@@ -1,7 +1,7 @@
 -- `carv_scheduler::area::thread_rank` meets its contract. Assumes nothing.
 use Rattle.std.proofs.Common.{rules}
 use Rattle.carv_scheduler.specs.Area.{threads_part}
-use Rattle.carv_scheduler.specs.laws.AreaSteps.{threads_keyed, thread_placed}
+use Rattle.carv_scheduler.specs.Laws.AreaSteps.{threads_keyed, thread_placed}
 use Rattle.carv_scheduler.proofs.area.thread_rank.Statement.{statement}
 use Rattle.carv_scheduler.proofs.area.thread_rank.Tie as tie
 

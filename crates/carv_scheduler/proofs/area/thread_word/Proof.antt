@@ -1,8 +1,8 @@
 -- `carv_scheduler::area::thread_word` meets its contract. Assumes nothing.
 use Rattle.std.proofs.Common.{arith, rules}
 use Rattle.carv_scheduler.specs.Area.{threads_part}
-use Rattle.carv_scheduler.specs.laws.AreaSteps.{thread_room}
-use Rattle.carv_scheduler.specs.laws.RowWords.{word_is}
+use Rattle.carv_scheduler.specs.Laws.AreaSteps.{thread_room}
+use Rattle.carv_scheduler.specs.Laws.RowWords.{word_is}
 use Rattle.carv_scheduler.proofs.area.thread_word.Statement.{statement}
 use Rattle.carv_scheduler.proofs.area.thread_word.Tie as tie
 

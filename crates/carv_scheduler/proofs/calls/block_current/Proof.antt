@@ -1,12 +1,12 @@
 -- `carv_scheduler::calls::block_current` meets its contract. Assumes nothing.
 use Rattle.std.proofs.Common.{sym, refl, ◌∙◌, rules}
 use Rattle.carv_objects.proofs.Rules.{said_not, said_so}
-use Rattle.carv_scheduler_spec.specs.laws.Kept.{block_current_kept}
-use Rattle.carv_scheduler.specs.laws.Formed.{leaves_as}
-use Rattle.carv_scheduler.specs.laws.AreaLaws.{area_formed, area_sound}
-use Rattle.carv_scheduler.specs.laws.Calls.{refused, answered}
-use Rattle.carv_scheduler.specs.laws.CallSteps.{here_is, here_not, blocked_current}
-use Rattle.carv_scheduler_spec.specs.laws.Questions.{block_unlisted, block_other, block_idle, block_done}
+use Rattle.carv_scheduler_spec.proofs.Laws.Kept.{block_current_kept}
+use Rattle.carv_scheduler.specs.Laws.Formed.{leaves_as}
+use Rattle.carv_scheduler.specs.Laws.AreaLaws.{area_formed, area_sound}
+use Rattle.carv_scheduler.specs.Laws.Calls.{refused, answered}
+use Rattle.carv_scheduler.specs.Laws.CallSteps.{here_is, here_not, blocked_current}
+use Rattle.carv_scheduler_spec.proofs.Laws.Questions.{block_unlisted, block_other, block_idle, block_done}
 use Rattle.carv_scheduler.specs.Area.{decode}
 use Rattle.carv_scheduler.proofs.calls.block_current.Statement.{statement}
 use Rattle.carv_scheduler.proofs.calls.block_current.Tie as tie

@@ -1,5 +1,5 @@
 -- `carv_scheduler::calls::blocked_at` meets its contract. Assumes nothing.
-use Rattle.carv_scheduler.specs.laws.CallSteps.{blocked_not, blocked_kind, blocked_number, blocked_yes}
+use Rattle.carv_scheduler.specs.Laws.CallSteps.{blocked_not, blocked_kind, blocked_number, blocked_yes}
 use Rattle.carv_scheduler.proofs.calls.blocked_at.Statement.{statement}
 use Rattle.carv_scheduler.proofs.calls.blocked_at.Tie as tie
 

@@ -1,12 +1,12 @@
 -- `carv_scheduler::calls::create_user_thread` meets its contract. Assumes nothing.
 use Rattle.std.proofs.Common.{sym, refl, ◌∙◌, arith, rules}
 use borrow.Author.Tests.{not-true, not-false}
-use Rattle.carv_scheduler_spec.specs.laws.Kept.{create_user_thread_kept}
-use Rattle.carv_scheduler.specs.laws.Formed.{leaves_as}
-use Rattle.carv_scheduler.specs.laws.AreaLaws.{area_formed, area_sound}
-use Rattle.carv_scheduler.specs.laws.Calls.{refused, answered}
-use Rattle.carv_scheduler.specs.laws.CallSteps.{new_id, created_is}
-use Rattle.carv_scheduler_spec.specs.laws.Questions.{create_known, create_first, create_idle, create_full, create_stack, create_done}
+use Rattle.carv_scheduler_spec.proofs.Laws.Kept.{create_user_thread_kept}
+use Rattle.carv_scheduler.specs.Laws.Formed.{leaves_as}
+use Rattle.carv_scheduler.specs.Laws.AreaLaws.{area_formed, area_sound}
+use Rattle.carv_scheduler.specs.Laws.Calls.{refused, answered}
+use Rattle.carv_scheduler.specs.Laws.CallSteps.{new_id, created_is}
+use Rattle.carv_scheduler_spec.proofs.Laws.Questions.{create_known, create_first, create_idle, create_full, create_stack, create_done}
 use Rattle.carv_scheduler.specs.Area.{decode}
 use Rattle.carv_scheduler.proofs.calls.create_user_thread.Statement.{statement}
 use Rattle.carv_scheduler.proofs.calls.create_user_thread.Tie as tie

@@ -2,8 +2,8 @@
 use Rattle.std.proofs.Common.{ℕ, refl, ap}
 use mathlib.Core.Option.{some}
 use Rattle.carv_scheduler_spec.specs.Scheduler.{word}
-use Rattle.carv_scheduler.specs.laws.AreaLaws.{area_formed}
-use Rattle.carv_scheduler.specs.laws.Calls.{read_serves}
+use Rattle.carv_scheduler.specs.Laws.AreaLaws.{area_formed}
+use Rattle.carv_scheduler.specs.Laws.Calls.{read_serves}
 use Rattle.carv_scheduler.proofs.calls.current.Statement.{statement}
 use Rattle.carv_scheduler.proofs.calls.current.Tie as tie
 

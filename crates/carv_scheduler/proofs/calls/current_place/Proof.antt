@@ -1,7 +1,7 @@
 -- `carv_scheduler::calls::current_place` meets its contract. Assumes nothing.
 use Rattle.std.proofs.Common.{rules}
-use Rattle.carv_scheduler.specs.laws.AreaLaws.{area_formed, area_sound}
-use Rattle.carv_scheduler.specs.laws.CallSteps.{current_found, current_missed}
+use Rattle.carv_scheduler.specs.Laws.AreaLaws.{area_formed, area_sound}
+use Rattle.carv_scheduler.specs.Laws.CallSteps.{current_found, current_missed}
 use Rattle.carv_scheduler.specs.Area.{decode}
 use Rattle.carv_scheduler.proofs.calls.current_place.Statement.{statement}
 use Rattle.carv_scheduler.proofs.calls.current_place.Tie as tie

@@ -1,11 +1,11 @@
 -- `carv_scheduler::calls::is_blocked_on` meets its contract. Assumes nothing.
 use Rattle.std.proofs.Common.{true, false, sym, refl, ◌∙◌, rules}
 use Rattle.carv_objects.proofs.Rules.{said_not, said_so}
-use Rattle.carv_scheduler.specs.laws.AreaLaws.{area_formed}
-use Rattle.carv_scheduler.specs.laws.Calls.{refused, read_serves}
-use Rattle.carv_scheduler.specs.laws.Places.{found_here, found_gone, here_has, gone_has}
-use Rattle.carv_scheduler.specs.laws.CallSteps.{blocked_at}
-use Rattle.carv_scheduler_spec.specs.laws.Questions.{blocked_unlisted, blocked_missing, blocked_told}
+use Rattle.carv_scheduler.specs.Laws.AreaLaws.{area_formed}
+use Rattle.carv_scheduler.specs.Laws.Calls.{refused, read_serves}
+use Rattle.carv_scheduler.specs.Laws.Places.{found_here, found_gone, here_has, gone_has}
+use Rattle.carv_scheduler.specs.Laws.CallSteps.{blocked_at}
+use Rattle.carv_scheduler_spec.proofs.Laws.Questions.{blocked_unlisted, blocked_missing, blocked_told}
 use Rattle.carv_scheduler.specs.Area.{decode}
 use Rattle.carv_scheduler.proofs.calls.is_blocked_on.Statement.{statement}
 use Rattle.carv_scheduler.proofs.calls.is_blocked_on.Tie as tie

@@ -3,10 +3,10 @@ use Rattle.std.proofs.Common.{sym, refl, ap, ◌∙◌, rules}
 use mathlib.Core.Option.{some}
 use Rattle.carv_scheduler_spec.specs.declared.Thread.{Thread}
 use Rattle.carv_scheduler_spec.specs.Scheduler.{record_of}
-use Rattle.carv_scheduler.specs.laws.AreaLaws.{area_formed}
-use Rattle.carv_scheduler.specs.laws.Calls.{refused, read_serves}
-use Rattle.carv_scheduler.specs.laws.Places.{found_here, found_gone, here_has, here_thread, gone_has}
-use Rattle.carv_scheduler_spec.specs.laws.Questions.{read_missing, read_done}
+use Rattle.carv_scheduler.specs.Laws.AreaLaws.{area_formed}
+use Rattle.carv_scheduler.specs.Laws.Calls.{refused, read_serves}
+use Rattle.carv_scheduler.specs.Laws.Places.{found_here, found_gone, here_has, here_thread, gone_has}
+use Rattle.carv_scheduler_spec.proofs.Laws.Questions.{read_missing, read_done}
 use Rattle.carv_scheduler.specs.Area.{decode}
 use Rattle.carv_scheduler.proofs.calls.read_thread.Statement.{statement}
 use Rattle.carv_scheduler.proofs.calls.read_thread.Tie as tie

@@ -1,12 +1,12 @@
 -- `carv_scheduler::calls::start` meets its contract. Assumes nothing.
 use Rattle.std.proofs.Common.{refl, rules}
-use Rattle.carv_scheduler_spec.specs.laws.Kept.{start_kept}
-use Rattle.carv_scheduler.specs.laws.Formed.{leaves_as}
-use Rattle.carv_scheduler.specs.laws.AreaLaws.{area_formed, area_sound}
-use Rattle.carv_scheduler.specs.laws.Calls.{refused, answered}
-use Rattle.carv_scheduler.specs.laws.Places.{found_here, found_gone, here_has, gone_has}
-use Rattle.carv_scheduler.specs.laws.CallSteps.{here_is, here_not, start_room, started_is}
-use Rattle.carv_scheduler_spec.specs.laws.Questions.{start_missing, start_other, start_done}
+use Rattle.carv_scheduler_spec.proofs.Laws.Kept.{start_kept}
+use Rattle.carv_scheduler.specs.Laws.Formed.{leaves_as}
+use Rattle.carv_scheduler.specs.Laws.AreaLaws.{area_formed, area_sound}
+use Rattle.carv_scheduler.specs.Laws.Calls.{refused, answered}
+use Rattle.carv_scheduler.specs.Laws.Places.{found_here, found_gone, here_has, gone_has}
+use Rattle.carv_scheduler.specs.Laws.CallSteps.{here_is, here_not, start_room, started_is}
+use Rattle.carv_scheduler_spec.proofs.Laws.Questions.{start_missing, start_other, start_done}
 use Rattle.carv_scheduler.specs.Area.{decode}
 use Rattle.carv_scheduler.proofs.calls.start.Statement.{statement}
 use Rattle.carv_scheduler.proofs.calls.start.Tie as tie

@@ -1,7 +1,7 @@
 -- `carv_scheduler::calls::store_and_join` meets its contract. Assumes nothing.
 use Rattle.std.proofs.Common.{rules}
-use Rattle.carv_scheduler.specs.laws.Formed.{leaves_as}
-use Rattle.carv_scheduler.specs.laws.CallSteps.{stored_joined, queue_kept}
+use Rattle.carv_scheduler.specs.Laws.Formed.{leaves_as}
+use Rattle.carv_scheduler.specs.Laws.CallSteps.{stored_joined, queue_kept}
 use Rattle.carv_scheduler.specs.Area.{decode}
 use Rattle.carv_scheduler.proofs.calls.store_and_join.Statement.{statement}
 use Rattle.carv_scheduler.proofs.calls.store_and_join.Tie as tie

@@ -1,8 +1,8 @@
 -- `carv_scheduler::exits::add_exit` meets its contract. Assumes nothing.
 use Rattle.std.proofs.Common.{◌∙◌, arith, rules}
 use Rattle.carv_scheduler.specs.Area.{exits_part}
-use Rattle.carv_scheduler.specs.laws.Formed.{exits_written}
-use Rattle.carv_scheduler.specs.laws.ExitSteps.{length_exits}
+use Rattle.carv_scheduler.specs.Laws.Formed.{exits_written}
+use Rattle.carv_scheduler.specs.Laws.ExitSteps.{length_exits}
 use Rattle.carv_scheduler.proofs.exits.add_exit.Statement.{statement}
 use Rattle.carv_scheduler.proofs.exits.add_exit.Tie as tie
 

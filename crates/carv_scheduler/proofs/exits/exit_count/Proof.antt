@@ -1,7 +1,7 @@
 -- `carv_scheduler::exits::exit_count` meets its contract. Assumes nothing.
 use Rattle.std.proofs.Common.{rules}
 use Rattle.carv_scheduler.specs.Area.{exits_part}
-use Rattle.carv_scheduler.specs.laws.ExitSteps.{exits_count}
+use Rattle.carv_scheduler.specs.Laws.ExitSteps.{exits_count}
 use Rattle.carv_scheduler.proofs.exits.exit_count.Statement.{statement}
 use Rattle.carv_scheduler.proofs.exits.exit_count.Tie as tie
 

@@ -37,9 +37,9 @@ use denote.Triple.Table.{entered}
 use denote.Triple.Walked.{says, Stays, stay_none_slice, stay_none, walk_of, Goes-none, Goes-none_slice, Walks, ends_at, walked, walk_Meets}
 use denote.Exit.{yes}
 use Rattle.carv_scheduler_spec.specs.Scheduler.{exit_in}
-use Rattle.carv_scheduler.specs.laws.Rows.{no_exit}
+use Rattle.carv_scheduler.specs.Laws.Rows.{no_exit}
 use Rattle.carv_scheduler.specs.ExitRun.{cause_of}
-use Rattle.carv_scheduler.specs.laws.ExitSearch.{run_ends, run_here, run_past}
+use Rattle.carv_scheduler.specs.Laws.ExitSearch.{run_ends, run_here, run_past}
 use Rattle.carv_scheduler_spec.specs.declared.Exit.{Exit}
 use Rattle.carv_scheduler.specs.declared.exits.Cause.{Cause}
 use Rattle.carv_scheduler.specs.declared.exits.Cause.TheVariants.{Logged, Nothing}

@@ -3,8 +3,8 @@
 use Rattle.std.proofs.Common.{◌≡◌, ◌-◌, length, drop, refl, arith}
 use Rattle.carv_scheduler_spec.specs.Scheduler.{exit_in}
 use Rattle.carv_scheduler.specs.Area.{decode}
-use Rattle.carv_scheduler.specs.laws.AreaLaws.{area_formed}
-use Rattle.carv_scheduler.specs.laws.ExitSteps.{exit_ends, exit_found, exit_on, cause_served, no_cause_served}
+use Rattle.carv_scheduler.specs.Laws.AreaLaws.{area_formed}
+use Rattle.carv_scheduler.specs.Laws.ExitSteps.{exit_ends, exit_found, exit_on, cause_served, no_cause_served}
 use Rattle.carv_scheduler.proofs.exits.exit_of.Statement.{statement}
 use Rattle.carv_scheduler.proofs.exits.exit_of.Tie as tie
 

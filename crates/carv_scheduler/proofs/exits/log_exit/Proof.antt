@@ -1,6 +1,6 @@
 -- `carv_scheduler::exits::log_exit` meets its contract. Assumes nothing.
 use Rattle.std.proofs.Common.{rules}
-use Rattle.carv_scheduler.specs.laws.ExitSteps.{logged_room, logged_left}
+use Rattle.carv_scheduler.specs.Laws.ExitSteps.{logged_room, logged_left}
 use Rattle.carv_scheduler.proofs.exits.log_exit.Statement.{statement}
 use Rattle.carv_scheduler.proofs.exits.log_exit.Tie as tie
 

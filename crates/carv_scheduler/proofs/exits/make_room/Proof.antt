@@ -1,6 +1,6 @@
 -- `carv_scheduler::exits::make_room` meets its contract. Assumes nothing.
 use Rattle.std.proofs.Common.{rules}
-use Rattle.carv_scheduler.specs.laws.ExitSteps.{full_some, room_made, room_there}
+use Rattle.carv_scheduler.specs.Laws.ExitSteps.{full_some, room_made, room_there}
 use Rattle.carv_scheduler.proofs.exits.make_room.Statement.{statement}
 use Rattle.carv_scheduler.proofs.exits.make_room.Tie as tie
 

@@ -1,6 +1,6 @@
 -- `carv_scheduler::image::write_image` meets its contract. Assumes nothing.
 use Rattle.std.proofs.Common.{rules}
-use Rattle.carv_scheduler.specs.laws.ImageCall.{image_refused, image_filled}
+use Rattle.carv_scheduler.specs.Laws.ImageCall.{image_refused, image_filled}
 use Rattle.carv_scheduler.proofs.image.write_image.Statement.{statement}
 use Rattle.carv_scheduler.proofs.image.write_image.Tie as tie
 

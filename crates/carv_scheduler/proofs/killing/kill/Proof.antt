@@ -1,9 +1,9 @@
 -- `carv_scheduler::killing::kill` meets its contract. Assumes nothing.
 use Rattle.std.proofs.Common.{rules}
 use Rattle.carv_objects.proofs.Rules.{said_not, said_so}
-use Rattle.carv_scheduler.specs.laws.AreaLaws.{area_formed}
-use Rattle.carv_scheduler.specs.laws.Places.{found_here, found_gone, gone_has}
-use Rattle.carv_scheduler.specs.laws.KillSteps.{unlisted_served, idle_served, missing_served, kill_distinct, kill_served}
+use Rattle.carv_scheduler.specs.Laws.AreaLaws.{area_formed}
+use Rattle.carv_scheduler.specs.Laws.Places.{found_here, found_gone, gone_has}
+use Rattle.carv_scheduler.specs.Laws.KillSteps.{unlisted_served, idle_served, missing_served, kill_distinct, kill_served}
 use Rattle.carv_scheduler.specs.Area.{decode}
 use Rattle.carv_scheduler.proofs.killing.kill.Statement.{statement}
 use Rattle.carv_scheduler.proofs.killing.kill.Tie as tie

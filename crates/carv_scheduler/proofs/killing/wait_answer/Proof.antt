@@ -1,5 +1,5 @@
 -- `carv_scheduler::killing::wait_answer` meets its contract. Assumes nothing.
-use Rattle.carv_scheduler.specs.laws.KillSteps.{ended_wait, ended_none}
+use Rattle.carv_scheduler.specs.Laws.KillSteps.{ended_wait, ended_none}
 use Rattle.carv_scheduler.proofs.killing.wait_answer.Statement.{statement}
 use Rattle.carv_scheduler.proofs.killing.wait_answer.Tie as tie
 

@@ -1,6 +1,6 @@
 -- `carv_scheduler::opening::blank` meets its contract. Assumes nothing.
 use Rattle.std.proofs.Common.{◌∙◌, rules}
-use Rattle.carv_scheduler.specs.laws.Opening.{blank_formed}
+use Rattle.carv_scheduler.specs.Laws.Opening.{blank_formed}
 use Rattle.carv_scheduler.proofs.opening.blank.Statement.{statement}
 use Rattle.carv_scheduler.proofs.opening.blank.Tie as tie
 

@@ -1,6 +1,6 @@
 -- `carv_scheduler::opening::clear_rest` meets its contract. Assumes nothing.
 use Rattle.std.proofs.Common.{arith, rules}
-use Rattle.carv_scheduler.specs.laws.Opening.{wiped}
+use Rattle.carv_scheduler.specs.Laws.Opening.{wiped}
 use Rattle.carv_scheduler.proofs.opening.clear_rest.Statement.{statement}
 use Rattle.carv_scheduler.proofs.opening.clear_rest.Tie as tie
 

@@ -1,7 +1,7 @@
 -- `carv_scheduler::opening::open` meets its contract. Assumes nothing.
 use Rattle.std.proofs.Common.{rules}
-use Rattle.carv_scheduler.specs.laws.Opening.{first_new, idle_new, board_opened, opened_size, opened_share, opened_done}
-use Rattle.carv_scheduler.specs.laws.Formed.{unchanged}
+use Rattle.carv_scheduler.specs.Laws.Opening.{first_new, idle_new, board_opened, opened_size, opened_share, opened_done}
+use Rattle.carv_scheduler.specs.Laws.Formed.{unchanged}
 use Rattle.carv_scheduler.proofs.opening.open.Statement.{statement}
 use Rattle.carv_scheduler.proofs.opening.open.Tie as tie
 

@@ -1,6 +1,6 @@
 -- `carv_scheduler::opening::open_registry` meets its contract. Assumes nothing.
 use Rattle.std.proofs.Common.{rules}
-use Rattle.carv_scheduler.specs.laws.Opening.{registry_opened}
+use Rattle.carv_scheduler.specs.Laws.Opening.{registry_opened}
 use Rattle.carv_scheduler.proofs.opening.open_registry.Statement.{statement}
 use Rattle.carv_scheduler.proofs.opening.open_registry.Tie as tie
 

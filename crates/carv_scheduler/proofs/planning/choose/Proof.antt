@@ -1,6 +1,6 @@
 -- `carv_scheduler::planning::choose` meets its contract. Assumes nothing.
 use Rattle.std.proofs.Common.{rules}
-use Rattle.carv_scheduler.specs.laws.Planning.{chooses_within, chooses_at, chooses_idle}
+use Rattle.carv_scheduler.specs.Laws.Planning.{chooses_within, chooses_at, chooses_idle}
 use Rattle.carv_scheduler.proofs.planning.choose.Statement.{statement}
 use Rattle.carv_scheduler.proofs.planning.choose.Tie as tie
 

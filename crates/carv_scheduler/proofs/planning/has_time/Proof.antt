@@ -1,7 +1,7 @@
 -- `carv_scheduler::planning::has_time` meets its contract. Assumes nothing.
 use Rattle.std.proofs.Common.{get_or, rules}
-use Rattle.carv_scheduler.specs.laws.Rows.{no_row}
-use Rattle.carv_scheduler.specs.laws.Planning.{tests_free, tests_budget}
+use Rattle.carv_scheduler.specs.Laws.Rows.{no_row}
+use Rattle.carv_scheduler.specs.Laws.Planning.{tests_free, tests_budget}
 use Rattle.carv_scheduler.specs.Area.{decode}
 use Rattle.carv_scheduler.proofs.planning.has_time.Statement.{statement}
 use Rattle.carv_scheduler.proofs.planning.has_time.Tie as tie

@@ -1,7 +1,7 @@
 -- `carv_scheduler::planning::leave` meets its contract. Assumes nothing.
 use Rattle.std.proofs.Common.{rules}
-use Rattle.carv_scheduler.specs.laws.Places.{found_here, found_gone}
-use Rattle.carv_scheduler.specs.laws.PlanSteps.{leaves_not, leaves_at, leaves_gone}
+use Rattle.carv_scheduler.specs.Laws.Places.{found_here, found_gone}
+use Rattle.carv_scheduler.specs.Laws.PlanSteps.{leaves_not, leaves_at, leaves_gone}
 use Rattle.carv_scheduler.specs.Area.{decode}
 use Rattle.carv_scheduler.proofs.planning.leave.Statement.{statement}
 use Rattle.carv_scheduler.proofs.planning.leave.Tie as tie

@@ -1,7 +1,7 @@
 -- `carv_scheduler::planning::plan` meets its contract. Assumes nothing.
 use Rattle.std.proofs.Common.{refl, rules}
-use Rattle.carv_scheduler.specs.laws.AreaLaws.{area_formed}
-use Rattle.carv_scheduler.specs.laws.PlanSteps.{plan_refused, planned_formed, planned_current, planned_dead, planned_here, planned}
+use Rattle.carv_scheduler.specs.Laws.AreaLaws.{area_formed}
+use Rattle.carv_scheduler.specs.Laws.PlanSteps.{plan_refused, planned_formed, planned_current, planned_dead, planned_here, planned}
 use Rattle.carv_scheduler.proofs.planning.plan.Statement.{statement}
 use Rattle.carv_scheduler.proofs.planning.plan.Tie as tie
 

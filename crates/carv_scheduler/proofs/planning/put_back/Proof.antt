@@ -1,8 +1,8 @@
 -- `carv_scheduler::planning::put_back` meets its contract. Assumes nothing.
 use Rattle.std.proofs.Common.{arith, rules}
-use Rattle.carv_scheduler.specs.laws.AreaLaws.{area_formed}
-use Rattle.carv_scheduler.specs.laws.Places.{found_here, found_gone}
-use Rattle.carv_scheduler.specs.laws.PlanSteps.{backs_gone, backs_not, backs_idle, backs_room, backs_goes}
+use Rattle.carv_scheduler.specs.Laws.AreaLaws.{area_formed}
+use Rattle.carv_scheduler.specs.Laws.Places.{found_here, found_gone}
+use Rattle.carv_scheduler.specs.Laws.PlanSteps.{backs_gone, backs_not, backs_idle, backs_room, backs_goes}
 use Rattle.carv_scheduler.specs.Area.{decode}
 use Rattle.carv_scheduler.proofs.planning.put_back.Statement.{statement}
 use Rattle.carv_scheduler.proofs.planning.put_back.Tie as tie

@@ -1,8 +1,8 @@
 -- `carv_scheduler::planning::renew` meets its contract. Assumes nothing.
 use Rattle.std.proofs.Common.{◌∙◌, rules}
 use Rattle.carv_scheduler.specs.Area.{registry_part}
-use Rattle.carv_scheduler.specs.laws.AreaSteps.{length_registry}
-use Rattle.carv_scheduler.specs.laws.Planning.{renewing}
+use Rattle.carv_scheduler.specs.Laws.AreaSteps.{length_registry}
+use Rattle.carv_scheduler.specs.Laws.Planning.{renewing}
 use Rattle.carv_scheduler.proofs.planning.renew.Statement.{statement}
 use Rattle.carv_scheduler.proofs.planning.renew.Tie as tie
 

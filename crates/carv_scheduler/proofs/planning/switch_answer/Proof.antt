@@ -1,7 +1,7 @@
 -- `carv_scheduler::planning::switch_answer` meets its contract. Assumes nothing.
 use Rattle.std.proofs.Common.{arith, rules}
-use Rattle.carv_scheduler.specs.laws.Places.{found_here, found_gone}
-use Rattle.carv_scheduler.specs.laws.PlanSteps.{says_same, says_gone, says_kernel, says_root}
+use Rattle.carv_scheduler.specs.Laws.Places.{found_here, found_gone}
+use Rattle.carv_scheduler.specs.Laws.PlanSteps.{says_same, says_gone, says_kernel, says_root}
 use Rattle.carv_scheduler.specs.Area.{decode}
 use Rattle.carv_scheduler.proofs.planning.switch_answer.Statement.{statement}
 use Rattle.carv_scheduler.proofs.planning.switch_answer.Tie as tie

@@ -1,6 +1,6 @@
 -- `carv_scheduler::registry::account` meets its contract. Assumes nothing.
 use Rattle.std.proofs.Common.{rules}
-use Rattle.carv_scheduler.specs.laws.OnRegistry.{part_fits, part_sound, part_read}
+use Rattle.carv_scheduler.specs.Laws.OnRegistry.{part_fits, part_sound, part_read}
 use Rattle.carv_objects_spec.specs.Registry.{read_account}
 use Rattle.carv_scheduler.proofs.registry.account.Statement.{statement}
 use Rattle.carv_scheduler.proofs.registry.account.Tie as tie

@@ -1,6 +1,6 @@
 -- `carv_scheduler::registry::charge_more` meets its contract. Assumes nothing.
 use Rattle.std.proofs.Common.{rules}
-use Rattle.carv_scheduler.specs.laws.OnRegistry.{part_fits, part_sound, part_served}
+use Rattle.carv_scheduler.specs.Laws.OnRegistry.{part_fits, part_sound, part_served}
 use Rattle.carv_objects_spec.specs.Registry.{charge_more}
 use Rattle.carv_scheduler.proofs.registry.charge_more.Statement.{statement}
 use Rattle.carv_scheduler.proofs.registry.charge_more.Tie as tie

@@ -1,6 +1,6 @@
 -- `carv_scheduler::registry::create` meets its contract. Assumes nothing.
 use Rattle.std.proofs.Common.{rules}
-use Rattle.carv_scheduler.specs.laws.OnRegistry.{part_fits, part_sound, part_served}
+use Rattle.carv_scheduler.specs.Laws.OnRegistry.{part_fits, part_sound, part_served}
 use Rattle.carv_objects_spec.specs.Registry.{create}
 use Rattle.carv_scheduler.proofs.registry.create.Statement.{statement}
 use Rattle.carv_scheduler.proofs.registry.create.Tie as tie

@@ -1,6 +1,6 @@
 -- `carv_scheduler::registry::insert` meets its contract. Assumes nothing.
 use Rattle.std.proofs.Common.{rules}
-use Rattle.carv_scheduler.specs.laws.OnRegistry.{part_fits, part_sound, part_served}
+use Rattle.carv_scheduler.specs.Laws.OnRegistry.{part_fits, part_sound, part_served}
 use Rattle.carv_objects_spec.specs.Registry.{insert}
 use Rattle.carv_scheduler.proofs.registry.insert.Statement.{statement}
 use Rattle.carv_scheduler.proofs.registry.insert.Tie as tie

@@ -1,6 +1,6 @@
 -- `carv_scheduler::registry::pays_for_anything` meets its contract. Assumes nothing.
 use Rattle.std.proofs.Common.{rules}
-use Rattle.carv_scheduler.specs.laws.OnRegistry.{part_fits, part_sound, part_read}
+use Rattle.carv_scheduler.specs.Laws.OnRegistry.{part_fits, part_sound, part_read}
 use Rattle.carv_objects_spec.specs.Registry.{pays_for_anything}
 use Rattle.carv_scheduler.proofs.registry.pays_for_anything.Statement.{statement}
 use Rattle.carv_scheduler.proofs.registry.pays_for_anything.Tie as tie

@@ -1,6 +1,6 @@
 -- `carv_scheduler::registry::totals` meets its contract. Assumes nothing.
 use Rattle.std.proofs.Common.{rules}
-use Rattle.carv_scheduler.specs.laws.OnRegistry.{part_fits, part_sound, part_read}
+use Rattle.carv_scheduler.specs.Laws.OnRegistry.{part_fits, part_sound, part_read}
 use Rattle.carv_objects_spec.specs.Totals.{read_totals}
 use Rattle.carv_scheduler.proofs.registry.totals.Statement.{statement}
 use Rattle.carv_scheduler.proofs.registry.totals.Tie as tie

@@ -1,6 +1,6 @@
 -- `carv_scheduler::registry::uncharge` meets its contract. Assumes nothing.
 use Rattle.std.proofs.Common.{rules}
-use Rattle.carv_scheduler.specs.laws.OnRegistry.{part_fits, part_sound, part_served}
+use Rattle.carv_scheduler.specs.Laws.OnRegistry.{part_fits, part_sound, part_served}
 use Rattle.carv_objects_spec.specs.Registry.{uncharge}
 use Rattle.carv_scheduler.proofs.registry.uncharge.Statement.{statement}
 use Rattle.carv_scheduler.proofs.registry.uncharge.Tie as tie

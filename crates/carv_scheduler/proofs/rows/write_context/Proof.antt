@@ -1,7 +1,7 @@
 -- `carv_scheduler::rows::write_context` meets its contract. Assumes nothing.
 use Rattle.std.proofs.Common.{rules}
 use native.Mathlib.Numerals.{towards_numerals}
-use Rattle.carv_scheduler.specs.laws.Rows.{set_context}
+use Rattle.carv_scheduler.specs.Laws.Rows.{set_context}
 use Rattle.carv_scheduler.proofs.rows.write_context.Statement.{statement}
 use Rattle.carv_scheduler.proofs.rows.write_context.Tie as tie
 

@@ -1,6 +1,6 @@
 -- `carv_scheduler::rows::write_end` meets its contract. Assumes nothing.
 use Rattle.std.proofs.Common.{rules}
-use Rattle.carv_scheduler.specs.laws.Rows.{end_set}
+use Rattle.carv_scheduler.specs.Laws.Rows.{end_set}
 use Rattle.carv_scheduler.proofs.rows.write_end.Statement.{statement}
 use Rattle.carv_scheduler.proofs.rows.write_end.Tie as tie
 

@@ -1,7 +1,7 @@
 -- `carv_scheduler::rows::write_place` meets its contract. Assumes nothing.
 use Rattle.std.proofs.Common.{rules}
 use native.Mathlib.Numerals.{towards_numerals}
-use Rattle.carv_scheduler.specs.laws.Rows.{set_spaces}
+use Rattle.carv_scheduler.specs.Laws.Rows.{set_spaces}
 use Rattle.carv_scheduler.proofs.rows.write_spaces.Statement.{statement}
 use Rattle.carv_scheduler.proofs.rows.write_spaces.Tie as tie
 

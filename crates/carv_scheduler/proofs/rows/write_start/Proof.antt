@@ -1,6 +1,6 @@
 -- `carv_scheduler::rows::write_start` meets its contract. Assumes nothing.
 use Rattle.std.proofs.Common.{rules}
-use Rattle.carv_scheduler.specs.laws.Rows.{start_set}
+use Rattle.carv_scheduler.specs.Laws.Rows.{start_set}
 use Rattle.carv_scheduler.proofs.rows.write_start.Statement.{statement}
 use Rattle.carv_scheduler.proofs.rows.write_start.Tie as tie
 

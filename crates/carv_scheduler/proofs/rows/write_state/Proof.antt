@@ -1,7 +1,7 @@
 -- `carv_scheduler::rows::write_state` meets its contract. Assumes nothing.
 use Rattle.std.proofs.Common.{rules}
 use native.Mathlib.Numerals.{towards_numerals}
-use Rattle.carv_scheduler.specs.laws.Rows.{set_state}
+use Rattle.carv_scheduler.specs.Laws.Rows.{set_state}
 use Rattle.carv_scheduler.proofs.rows.write_state.Statement.{statement}
 use Rattle.carv_scheduler.proofs.rows.write_state.Tie as tie
 

@@ -1,6 +1,6 @@
 -- `carv_scheduler::rows::write_thread` meets its contract. Assumes nothing.
 use Rattle.std.proofs.Common.{rules}
-use Rattle.carv_scheduler.specs.laws.Rows.{thread_set}
+use Rattle.carv_scheduler.specs.Laws.Rows.{thread_set}
 use Rattle.carv_scheduler.proofs.rows.write_thread.Statement.{statement}
 use Rattle.carv_scheduler.proofs.rows.write_thread.Tie as tie
 

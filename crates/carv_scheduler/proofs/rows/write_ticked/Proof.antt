@@ -1,6 +1,6 @@
 -- `carv_scheduler::rows::write_ticked` meets its contract. Assumes nothing.
 use Rattle.std.proofs.Common.{rules}
-use Rattle.carv_scheduler.specs.laws.Rows.{set_ticks}
+use Rattle.carv_scheduler.specs.Laws.Rows.{set_ticks}
 use Rattle.carv_scheduler.proofs.rows.write_ticked.Statement.{statement}
 use Rattle.carv_scheduler.proofs.rows.write_ticked.Tie as tie
 

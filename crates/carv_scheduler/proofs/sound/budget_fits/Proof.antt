@@ -1,7 +1,7 @@
 -- `carv_scheduler::sound::budget_fits` meets its contract. Assumes nothing.
 use Rattle.std.proofs.Common.{sym, ◌∙◌, rules}
 use borrow.Author.Tests.{not-true, not-false}
-use Rattle.carv_scheduler.specs.laws.SoundThread.{budget_paid, budget_some, budget_none}
+use Rattle.carv_scheduler.specs.Laws.SoundThread.{budget_paid, budget_some, budget_none}
 use Rattle.carv_scheduler.proofs.sound.budget_fits.Statement.{statement}
 use Rattle.carv_scheduler.proofs.sound.budget_fits.Tie as tie
 

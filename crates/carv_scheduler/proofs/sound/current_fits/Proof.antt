@@ -1,8 +1,8 @@
 -- `carv_scheduler::sound::current_fits` meets its contract. Assumes nothing.
 use Rattle.std.proofs.Common.{arith, rules}
 use Rattle.carv_area.specs.Words.{words}
-use Rattle.carv_scheduler.specs.laws.SoundRows.{stands, missing}
-use Rattle.carv_scheduler.specs.laws.SoundStates.{no_current, current_tells}
+use Rattle.carv_scheduler.specs.Laws.SoundRows.{stands, missing}
+use Rattle.carv_scheduler.specs.Laws.SoundStates.{no_current, current_tells}
 use Rattle.carv_scheduler.proofs.sound.current_fits.Statement.{statement}
 use Rattle.carv_scheduler.proofs.sound.current_fits.Tie as tie
 

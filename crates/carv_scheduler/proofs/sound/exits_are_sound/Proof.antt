@@ -5,9 +5,9 @@ use borrow.Author.Tests.{not-true, not-false}
 use Rattle.carv_area.specs.Words.{words}
 use Rattle.carv_objects.proofs.Rules.{said_not, said_so}
 use Rattle.carv_scheduler_spec.specs.Scheduler.{cause_listed}
-use Rattle.carv_scheduler.specs.laws.SoundWalk.{Listed}
-use Rattle.carv_scheduler.specs.laws.SoundRows.{one_more}
-use Rattle.carv_scheduler.specs.laws.SoundLog.{exit_listed, exits_sound}
+use Rattle.carv_scheduler.specs.Laws.SoundWalk.{Listed}
+use Rattle.carv_scheduler.specs.Laws.SoundRows.{one_more}
+use Rattle.carv_scheduler.specs.Laws.SoundLog.{exit_listed, exits_sound}
 use Rattle.carv_scheduler.proofs.sound.exits_are_sound.Statement.{statement}
 use Rattle.carv_scheduler.proofs.sound.exits_are_sound.Tie as tie
 

@@ -2,8 +2,8 @@
 use Rattle.std.proofs.Common.{true≢false, arith, rules}
 use mathlib.Core.Bool.{false≢true}
 use Rattle.carv_area.specs.Words.{words}
-use Rattle.carv_scheduler.specs.laws.SoundRows.{stands, missing}
-use Rattle.carv_scheduler.specs.laws.SoundStates.{no_idle, idle_runs, idle_else, idle_waits}
+use Rattle.carv_scheduler.specs.Laws.SoundRows.{stands, missing}
+use Rattle.carv_scheduler.specs.Laws.SoundStates.{no_idle, idle_runs, idle_else, idle_waits}
 use Rattle.carv_scheduler.proofs.sound.idle_fits.Statement.{statement}
 use Rattle.carv_scheduler.proofs.sound.idle_fits.Tie as tie
 

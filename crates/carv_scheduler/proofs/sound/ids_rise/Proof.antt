@@ -2,9 +2,9 @@
 use Rattle.std.proofs.Common.{◌≡◌, ◌-◌, length, true≢false, arith, length-set, rules}
 use mathlib.Core.Bool.{false≢true}
 use Rattle.carv_area.specs.Words.{words}
-use Rattle.carv_area.specs.laws.Words.{word_below}
-use Rattle.carv_scheduler.specs.laws.SoundWalk.{Order}
-use Rattle.carv_scheduler.specs.laws.SoundRows.{order_none, order_first, order_more, order_off, order_all}
+use Rattle.carv_area.specs.Laws.Words.{word_below}
+use Rattle.carv_scheduler.specs.Laws.SoundWalk.{Order}
+use Rattle.carv_scheduler.specs.Laws.SoundRows.{order_none, order_first, order_more, order_off, order_all}
 use Rattle.carv_scheduler.proofs.sound.ids_rise.Statement.{statement}
 use Rattle.carv_scheduler.proofs.sound.ids_rise.Tie as tie
 

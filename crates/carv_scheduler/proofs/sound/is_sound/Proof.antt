@@ -2,7 +2,7 @@
 use Rattle.std.proofs.Common.{sym, ◌∙◌, arith, rules}
 use borrow.Author.Tests.{not-true, not-false}
 use Rattle.carv_scheduler.specs.Area.{registry_part}
-use Rattle.carv_scheduler.specs.laws.SoundBridge.{asked_size, asked_registry, asked}
+use Rattle.carv_scheduler.specs.Laws.SoundBridge.{asked_size, asked_registry, asked}
 use Rattle.carv_scheduler.proofs.sound.is_sound.Statement.{statement}
 use Rattle.carv_scheduler.proofs.sound.is_sound.Tie as tie
 

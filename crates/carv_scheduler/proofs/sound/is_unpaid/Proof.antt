@@ -1,5 +1,5 @@
 -- `carv_scheduler::sound::is_unpaid` meets its contract. Assumes nothing.
-use Rattle.carv_scheduler.specs.laws.SoundThread.{is_first, not_first}
+use Rattle.carv_scheduler.specs.Laws.SoundThread.{is_first, not_first}
 use Rattle.carv_scheduler.proofs.sound.is_unpaid.Statement.{statement}
 use Rattle.carv_scheduler.proofs.sound.is_unpaid.Tie as tie
 

@@ -3,8 +3,8 @@ use Rattle.std.proofs.Common.{arith, rules}
 use mathlib.Core.Bool.{false≢true}
 use borrow.Author.Tests.{not-true, not-false}
 use Rattle.carv_scheduler.specs.Area.{threads_part, queue_part, exits_part}
-use Rattle.carv_scheduler.specs.laws.AreaSteps.{length_threads, length_queue}
-use Rattle.carv_scheduler.specs.laws.SoundBridge.{parts_no, parts_tell}
+use Rattle.carv_scheduler.specs.Laws.AreaSteps.{length_threads, length_queue}
+use Rattle.carv_scheduler.specs.Laws.SoundBridge.{parts_no, parts_tell}
 use Rattle.carv_scheduler.proofs.sound.parts_are_sound.Statement.{statement}
 use Rattle.carv_scheduler.proofs.sound.parts_are_sound.Tie as tie
 

@@ -3,7 +3,7 @@ use Rattle.std.proofs.Common.{◌≡◌, ◌-◌, ◌≤◌, get_or, true≢fals
 use mathlib.Core.Bool.{false≢true}
 use borrow.Author.Tests.{not-true, not-false}
 use Rattle.carv_area.specs.Words.{words}
-use Rattle.carv_scheduler.specs.laws.SoundWalk.{Walk}
+use Rattle.carv_scheduler.specs.Laws.SoundWalk.{Walk}
 use Rattle.carv_scheduler.proofs.sound.queue_fits.Statement.{statement}
 use Rattle.carv_scheduler.proofs.sound.queue_fits.Tie as tie
 

@@ -1,5 +1,5 @@
 -- `carv_scheduler::sound::space_fits` meets its contract. Assumes nothing.
-use Rattle.carv_scheduler.specs.laws.SoundThread.{space_some, space_first, space_second, space_third}
+use Rattle.carv_scheduler.specs.Laws.SoundThread.{space_some, space_first, space_second, space_third}
 use Rattle.carv_scheduler.proofs.sound.space_fits.Statement.{statement}
 use Rattle.carv_scheduler.proofs.sound.space_fits.Tie as tie
 

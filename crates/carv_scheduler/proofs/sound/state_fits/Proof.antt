@@ -1,5 +1,5 @@
 -- `carv_scheduler::sound::state_fits` meets its contract. Assumes nothing.
-use Rattle.carv_scheduler.specs.laws.SoundThread.{state_low, state_high, state_dead, state_ready, state_running, state_idle, state_other}
+use Rattle.carv_scheduler.specs.Laws.SoundThread.{state_low, state_high, state_dead, state_ready, state_running, state_idle, state_other}
 use Rattle.carv_scheduler.proofs.sound.state_fits.Statement.{statement}
 use Rattle.carv_scheduler.proofs.sound.state_fits.Tie as tie
 

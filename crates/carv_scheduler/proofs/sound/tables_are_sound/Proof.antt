@@ -3,7 +3,7 @@ use Rattle.std.proofs.Common.{sym, ◌∙◌, arith, rules}
 use mathlib.Core.Bool.{false≢true}
 use borrow.Author.Tests.{not-true, not-false}
 use Rattle.carv_area.specs.Words.{words}
-use Rattle.carv_scheduler.specs.laws.SoundRows.{behind_queue}
+use Rattle.carv_scheduler.specs.Laws.SoundRows.{behind_queue}
 use Rattle.carv_scheduler.proofs.sound.tables_are_sound.Statement.{statement}
 use Rattle.carv_scheduler.proofs.sound.tables_are_sound.Tie as tie
 

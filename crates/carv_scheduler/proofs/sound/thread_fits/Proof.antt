@@ -3,7 +3,7 @@ use Rattle.std.proofs.Common.{rules}
 use borrow.Author.Tests.{not-true, not-false}
 use mathlib.Core.Bool.{false≢true}
 use Rattle.carv_area.specs.Words.{words}
-use Rattle.carv_scheduler.specs.laws.SoundThread.{no_state, no_wait, no_budget, space_tells}
+use Rattle.carv_scheduler.specs.Laws.SoundThread.{no_state, no_wait, no_budget, space_tells}
 use Rattle.carv_scheduler.proofs.sound.thread_fits.Statement.{statement}
 use Rattle.carv_scheduler.proofs.sound.thread_fits.Tie as tie
 

@@ -3,8 +3,8 @@ use Rattle.std.proofs.Common.{arith, rules}
 use mathlib.Core.Bool.{false≢true}
 use borrow.Author.Tests.{not-true, not-false}
 use Rattle.carv_area.specs.Words.{words}
-use Rattle.carv_scheduler.specs.laws.SoundRows.{ordered_keyed}
-use Rattle.carv_scheduler.specs.laws.SoundQueue.{walk_none, walk_sound, fit_out, fit_in}
+use Rattle.carv_scheduler.specs.Laws.SoundRows.{ordered_keyed}
+use Rattle.carv_scheduler.specs.Laws.SoundQueue.{walk_none, walk_sound, fit_out, fit_in}
 use Rattle.carv_scheduler.proofs.sound.threads_are_sound.Statement.{statement}
 use Rattle.carv_scheduler.proofs.sound.threads_are_sound.Tie as tie
 

@@ -3,8 +3,8 @@ use Rattle.std.proofs.Common.{ℕ, ◌-◌, ◌≤◌, eqb, get_or, true≢false
 use mathlib.Core.Bool.{false≢true}
 use borrow.Author.Tests.{not-true, not-false}
 use Rattle.carv_area.specs.Words.{words}
-use Rattle.carv_scheduler.specs.laws.SoundWalk.{Fits, Fit}
-use Rattle.carv_scheduler.specs.laws.SoundRows.{one_more}
+use Rattle.carv_scheduler.specs.Laws.SoundWalk.{Fits, Fit}
+use Rattle.carv_scheduler.specs.Laws.SoundRows.{one_more}
 use Rattle.carv_scheduler.proofs.sound.threads_fit.Statement.{statement}
 use Rattle.carv_scheduler.proofs.sound.threads_fit.Tie as tie
 

@@ -2,8 +2,8 @@
 use Rattle.std.proofs.Common.{true≢false, arith, rules}
 use mathlib.Core.Bool.{false≢true}
 use Rattle.carv_area.specs.Words.{words}
-use Rattle.carv_scheduler.specs.laws.SoundRows.{stands, missing, keys_rise}
-use Rattle.carv_scheduler.specs.laws.SoundQueue.{off_idle, off_missing, off_state, off_marked, walk_on}
+use Rattle.carv_scheduler.specs.Laws.SoundRows.{stands, missing, keys_rise}
+use Rattle.carv_scheduler.specs.Laws.SoundQueue.{off_idle, off_missing, off_state, off_marked, walk_on}
 use Rattle.carv_scheduler.proofs.sound.turn.Statement.{statement}
 use Rattle.carv_scheduler.proofs.sound.turn.Tie as tie
 

@@ -1,8 +1,8 @@
 -- `carv_scheduler::ticking::account` meets its contract. Assumes nothing.
 use Rattle.std.proofs.Common.{arith, rules}
-use Rattle.carv_scheduler.specs.laws.AreaLaws.{area_formed}
-use Rattle.carv_scheduler.specs.laws.Places.{found_here, found_gone}
-use Rattle.carv_scheduler.specs.laws.Ticking.{account_gone, account_free, account_paid}
+use Rattle.carv_scheduler.specs.Laws.AreaLaws.{area_formed}
+use Rattle.carv_scheduler.specs.Laws.Places.{found_here, found_gone}
+use Rattle.carv_scheduler.specs.Laws.Ticking.{account_gone, account_free, account_paid}
 use Rattle.carv_scheduler.specs.Area.{decode}
 use Rattle.carv_scheduler.proofs.ticking.account.Statement.{statement}
 use Rattle.carv_scheduler.proofs.ticking.account.Tie as tie

@@ -1,8 +1,8 @@
 -- `carv_scheduler::ticking::charge` meets its contract. Assumes nothing.
 use Rattle.std.proofs.Common.{◌∙◌, rules}
 use Rattle.carv_scheduler.specs.Area.{registry_part}
-use Rattle.carv_scheduler.specs.laws.Formed.{registry_written}
-use Rattle.carv_scheduler.specs.laws.AreaSteps.{length_registry}
+use Rattle.carv_scheduler.specs.Laws.Formed.{registry_written}
+use Rattle.carv_scheduler.specs.Laws.AreaSteps.{length_registry}
 use Rattle.carv_scheduler.proofs.ticking.charge.Statement.{statement}
 use Rattle.carv_scheduler.proofs.ticking.charge.Tie as tie
 

@@ -1,8 +1,8 @@
 -- `carv_scheduler::ticking::tick` meets its contract. Assumes nothing.
 use Rattle.std.proofs.Common.{arith, rules}
 use Rattle.carv_scheduler_spec.specs.Scheduler.{tick}
-use Rattle.carv_scheduler.specs.laws.Calls.{refused}
-use Rattle.carv_scheduler.specs.laws.Ticking.{tick_late, ticks}
+use Rattle.carv_scheduler.specs.Laws.Calls.{refused}
+use Rattle.carv_scheduler.specs.Laws.Ticking.{tick_late, ticks}
 use Rattle.carv_scheduler.specs.Area.{decode}
 use Rattle.carv_scheduler.proofs.ticking.tick.Statement.{statement}
 use Rattle.carv_scheduler.proofs.ticking.tick.Tie as tie

@@ -1,8 +1,8 @@
 -- `carv_scheduler::ticking::wake` meets its contract. Assumes nothing.
 use Rattle.std.proofs.Common.{arith, rules}
-use Rattle.carv_scheduler.specs.laws.AreaLaws.{area_formed}
-use Rattle.carv_scheduler.specs.laws.Places.{found_here, found_gone}
-use Rattle.carv_scheduler.specs.laws.Waking.{here_blocked, wake_gone, wake_other, wake_serves}
+use Rattle.carv_scheduler.specs.Laws.AreaLaws.{area_formed}
+use Rattle.carv_scheduler.specs.Laws.Places.{found_here, found_gone}
+use Rattle.carv_scheduler.specs.Laws.Waking.{here_blocked, wake_gone, wake_other, wake_serves}
 use Rattle.carv_scheduler.specs.Area.{decode}
 use Rattle.carv_scheduler.proofs.ticking.wake.Statement.{statement}
 use Rattle.carv_scheduler.proofs.ticking.wake.Tie as tie

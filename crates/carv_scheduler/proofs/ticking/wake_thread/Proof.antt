@@ -1,7 +1,7 @@
 -- `carv_scheduler::ticking::wake_thread` meets its contract. Assumes nothing.
 use Rattle.std.proofs.Common.{rules}
-use Rattle.carv_scheduler.specs.laws.AreaLaws.{area_formed}
-use Rattle.carv_scheduler.specs.laws.Waking.{wake_room, wakes}
+use Rattle.carv_scheduler.specs.Laws.AreaLaws.{area_formed}
+use Rattle.carv_scheduler.specs.Laws.Waking.{wake_room, wakes}
 use Rattle.carv_scheduler.proofs.ticking.wake_thread.Statement.{statement}
 use Rattle.carv_scheduler.proofs.ticking.wake_thread.Tie as tie
 

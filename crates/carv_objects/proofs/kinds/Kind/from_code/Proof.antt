@@ -1,6 +1,6 @@
 -- `carv_objects::kinds::Kind::from_code` meets its contract. Assumes nothing.
 use borrow.Author.Rules.{rules}
-use Rattle.carv_objects.specs.laws.Kinds.{unlisted}
+use Rattle.carv_objects.specs.Laws.Kinds.{unlisted}
 use Rattle.carv_objects.proofs.kinds.Kind.from_code.Statement.{statement}
 use Rattle.carv_objects.proofs.kinds.Kind.from_code.Tie as tie
 

@@ -1,0 +1,355 @@
+-- Demand 2 for accounts alone: for every list of operations, each child returned to its own parent, every answer and every account are the Rust's after each
+-- operation, and no refusal is added. The lent forms answer and leave the same. Assumes nothing.
+use Rattle.std.specs.Prelude.{◌≡◌, refl, Bool, true, false, cond, List, [], ◌∷◌, map, ℕ, zero, suc, set}
+use Rattle.std.proofs.Common.{ap, ◌∙◌, sym, eq-eqb}
+use Rattle.std.proofs.Math.Option.{Option, none, some}
+use Rattle.std.proofs.lemmas.List.{map-append}
+use Rattle.std.proofs.Math.ListN.{get_or-map}
+use Rattle.carv_budget.specs.declared.Account.{Account}
+use Rattle.carv_budget.specs.declared.Answer.{Answer}
+use Rattle.carv_budget.specs.declared.Answer.TheVariants.{Done, Renewed, NotDue, CpuBudgetExceedsPeriod, MemoryUnderflow, CpuLimitReached, MemoryLimitReached, CpuLimitExceeded, MemoryLimitExceeded, ReservationUnderflow}
+use Rattle.carv_budget.specs.declared.Outcome.{Outcome}
+use Rattle.carv_budget.specs.declared.CarveOut.{CarveOut}
+use Rattle.carv_budget.specs.Account as account
+use Rattle.carv_budget.specs.Account.{number, period, sound, outcome, Lent}
+use Rattle.carv_budget.specs.Rust as rust
+use Rattle.carv_budget.specs.Rust.{BudgetError, zero_period, cpu_budget_exceeds_period, cpu_limit_exceeded, memory_limit_exceeded, memory_limit_reached, memory_underflow, reservation_underflow, Result, ok, err}
+use Rattle.carv_budget.specs.Replies.{error, answer, renewal, charged, opening_of, refill_of, charge_of, outcome_of, carve_out_of}
+use Rattle.carv_budget.specs.Runs.{Operation, open_account, refill, charge_cpu, charge_memory, release_memory, carve_out, release_child, Places, at, put, take, add, Reply, answered, Budget, budget, accepted, opened, changed, carved, carved_from, returned, returned_to, run, rust_opened, rust_changed, rust_carved, rust_carved_from, rust_returned, rust_returned_to, rust_run, replies, rust_replies, after, seen, all_seen, reply_seen, is_own, returns_own, AllReturnOwn, is_added, NoneAdded, AllSound}
+use Rattle.carv_budget.proofs.Laws.Account as laws
+use Rattle.carv_budget.proofs.Laws.Refines as refines
+
+-- Places with and without identities.
+
+at_seen : (t : Places Budget) (i : ℕ) → at (all_seen t) i ≡ seen (at t i)
+at_seen t i = get_or-map seen t i none
+
+set_seen : (t : Places Budget) (i : ℕ) (x : Option Budget) → set (all_seen t) i (seen x) ≡ all_seen (set t i x)
+set_seen [] i x = refl
+set_seen (y ∷ t) zero x = refl
+set_seen (y ∷ t) (suc i) x = ap (λ (l : Places Account). seen y ∷ l) (set_seen t i x)
+
+add_seen : (t : Places Budget) (b : Budget) → add b.figures (all_seen t) ≡ all_seen (add b t)
+add_seen t b = sym (map-append seen t (some b ∷ []))
+
+-- Soundness, place by place.
+
+abbrev SoundAt : Option Account → Type 0
+SoundAt none = Unit {0}
+SoundAt (some a) = sound a ≡ true
+
+at_sound : (t : Places Account) (i : ℕ) → AllSound t → SoundAt (at t i)
+at_sound [] i s = tt
+at_sound (none ∷ t) zero s = tt
+at_sound (some a ∷ t) zero s = s.0
+at_sound (none ∷ t) (suc i) s = at_sound t i s
+at_sound (some a ∷ t) (suc i) s = at_sound t i s.1
+
+seen_sound : (t : Places Budget) (i : ℕ) → AllSound (all_seen t) → SoundAt (seen (at t i))
+seen_sound t i s = rw (at_seen t i) at (at_sound (all_seen t) i s)
+
+set_sound : (t : Places Account) (i : ℕ) (x : Option Account) → AllSound t → SoundAt x → AllSound (set t i x)
+set_sound [] i x s p = s
+set_sound (none ∷ t) zero none s p = s
+set_sound (none ∷ t) zero (some b) s p = (p, s)
+set_sound (some a ∷ t) zero none s p = s.1
+set_sound (some a ∷ t) zero (some b) s p = (p, s.1)
+set_sound (none ∷ t) (suc i) x s p = set_sound t i x s p
+set_sound (some a ∷ t) (suc i) x s p = (s.0, set_sound t i x s.1 p)
+
+add_sound : (t : Places Account) (a : Account) → AllSound t → sound a ≡ true → AllSound (add a t)
+add_sound [] a s p = (p, tt)
+add_sound (none ∷ t) a s p = add_sound t a s p
+add_sound (some b ∷ t) a s p = (s.0, add_sound t a s.1 p)
+
+-- Every operation leaves sound accounts, on whatever sound ones.
+
+changed_kept : (i : ℕ) (f : Account → Outcome) → ((a : Account) → sound a ≡ true → sound (f a).account ≡ true) → (x : Option Account) (t : Places Account)
+    → SoundAt x → AllSound t → AllSound (changed i f x t).after
+changed_kept i f h none t p s = s
+changed_kept i f h (some a) t p s = set_sound t i (some (f a).account) s (h a p)
+
+carved_kept : (i cpu memory time : ℕ) (x : Option Account) (t : Places Account) → SoundAt x → AllSound t → AllSound (carved_from i cpu memory time x t).after
+carved_kept i cpu memory time none t p s = s
+carved_kept i cpu memory time (some a) t p s =
+    let r : CarveOut = account.carve_out a cpu memory time in
+    let k : laws.BothSound r = laws.carve_out_kept a cpu memory time p in
+    let parent : AllSound (put i r.parent t) = set_sound t i (some r.parent) s k.parent in
+    laws.picks AllSound (accepted r.answer) _ _ (λ _. add_sound (put i r.parent t) r.child parent k.child) (λ _. parent)
+
+returned_kept : (i child : ℕ) (x y : Option Account) (t : Places Account) → SoundAt x → AllSound t → AllSound (returned_to i child x y t).after
+returned_kept i child none y t p s = s
+returned_kept i child (some a) none t p s = s
+returned_kept i child (some a) (some c) t p s =
+    let r : Outcome = account.release_child a c in
+    set_sound (cond (accepted r.answer) (take child t) t) i (some r.account)
+    (laws.picks AllSound (accepted r.answer) _ _ (λ _. set_sound t child none s tt) (λ _. s)) (laws.release_child_kept a c p)
+
+pub run_kept : (o : Operation) (t : Places Account) → AllSound t → AllSound (run o t).after
+run_kept (open_account cpu memory time) t s =
+    let r : Outcome = account.open_account cpu memory time in
+    laws.picks AllSound (accepted r.answer) _ _ (λ _. add_sound t r.account s (laws.open_account_kept cpu memory time)) (λ _. s)
+run_kept (refill i time) t s = changed_kept i _ (λ a. laws.refill_kept a time) (at t i) t (at_sound t i s) s
+run_kept (charge_cpu i ns time) t s = changed_kept i _ (λ a. laws.charge_cpu_kept a ns time) (at t i) t (at_sound t i s) s
+run_kept (charge_memory i bytes) t s = changed_kept i _ (λ a. laws.charge_memory_kept a bytes) (at t i) t (at_sound t i s) s
+run_kept (release_memory i bytes) t s = changed_kept i _ (λ a. laws.release_memory_kept a bytes) (at t i) t (at_sound t i s) s
+run_kept (carve_out i cpu memory time) t s = carved_kept i cpu memory time (at t i) t (at_sound t i s) s
+run_kept (release_child i child) t s = returned_kept i child (at t i) (at t child) t (at_sound t i s) s
+
+pub kept : (os : List Operation) (t : Places Account) → AllSound t → AllSound (after os t)
+kept [] t s = s
+kept (o ∷ os) t s = kept os (run o t).after (run_kept o t s)
+
+-- from none held
+pub all_sound : (os : List Operation) → AllSound (after os [])
+all_sound os = kept os [] tt
+
+-- One operation: the Rust's, on sound accounts, a child going to its own parent.
+
+-- an error is no acceptance
+refused : (e : BudgetError) → accepted (error e) ≡ false
+refused zero_period = refl
+refused cpu_budget_exceeds_period = refl
+refused cpu_limit_exceeded = refl
+refused memory_limit_exceeded = refl
+refused memory_limit_reached = refl
+refused memory_underflow = refl
+refused reservation_underflow = refl
+
+opened_rust : (r : Result Account) (t : Places Budget) → opened (opening_of r) (all_seen t) ≡ reply_seen (rust_opened r t)
+opened_rust (ok a) t = rw (add_seen t (budget none a))
+opened_rust (err e) t = rw (refused e)
+
+changed_rust : (i : ℕ) (f g : Account → Outcome) → ((a : Account) → sound a ≡ true → f a ≡ g a) → (x : Option Budget) (t : Places Budget) → SoundAt (seen x)
+    → changed i f (seen x) (all_seen t) ≡ reply_seen (rust_changed i g x t)
+changed_rust i f g h none t p = refl
+changed_rust i f g h (some b) t p =
+    rw (h b.figures p, ← set_seen t i (some (budget b.parent_id (g b.figures).account)))
+
+carved_rust : (i : ℕ) (self : Budget) (r : Result Account) (t : Places Budget)
+    → carved i (carve_out_of (record { self = self.figures; result = r })) (all_seen t) ≡ reply_seen (rust_carved i self r t)
+carved_rust i self (ok child) t = rw (← add_seen (put i self t) (budget (some i) child), ← set_seen t i (some self))
+carved_rust i self (err e) t = rw (refused e, ← set_seen t i (some self))
+
+carved_from_rust : (i cpu memory time : ℕ) (x : Option Budget) (t : Places Budget) → SoundAt (seen x)
+    → carved_from i cpu memory time (seen x) (all_seen t) ≡ reply_seen (rust_carved_from i cpu memory time x t)
+carved_from_rust i cpu memory time none t p = refl
+carved_from_rust i cpu memory time (some b) t p =
+    let r : rust.Call (Result Account) = rust.carve_out b.figures cpu memory time in
+    ap (λ (c : CarveOut). carved i c (all_seen t)) (refines.carve_out_rust b.figures cpu memory time p) ∙ carved_rust i (budget b.parent_id r.self) r.result t
+
+returned_rust : (i child : ℕ) (self : Budget) (r : Result (Unit {0})) (t : Places Budget)
+    → returned i child (outcome_of (record { self = self.figures; result = r })) (all_seen t) ≡ reply_seen (rust_returned i child self r t)
+returned_rust i child self (ok u) t = rw (set_seen t child none, ← set_seen (take child t) i (some self))
+returned_rust i child self (err e) t = rw (refused e, ← set_seen t i (some self))
+
+returned_to_rust : (i child : ℕ) (x y : Option Budget) (t : Places Budget) → SoundAt (seen x) → SoundAt (seen y) → is_own i y ≡ true
+    → returned_to i child (seen x) (seen y) (all_seen t) ≡ reply_seen (rust_returned_to i child x y t)
+returned_to_rust i child none y t p q o = refl
+returned_to_rust i child (some b) none t p q o = refl
+returned_to_rust i child (some b) (some c) t p q o =
+    let r : rust.Call (Result (Unit {0})) = rust.release_child true b.figures c.figures in
+    rw o
+    (ap (λ (z : Outcome). returned i child z (all_seen t)) (refines.release_child_rust b.figures c.figures p q)
+    ∙ returned_rust i child (budget b.parent_id r.self) r.result t)
+
+pub run_rust : (o : Operation) (t : Places Budget) → AllSound (all_seen t) → returns_own o t ≡ true → run o (all_seen t) ≡ reply_seen (rust_run o t)
+run_rust (open_account cpu memory time) t s w =
+    ap (λ (r : Outcome). opened r (all_seen t)) (refines.open_account_rust cpu memory time) ∙ opened_rust (rust.new cpu period memory time) t
+run_rust (refill i time) t s w = rw (at_seen t i) (changed_rust i _ _ (λ a. refines.refill_rust a time) (at t i) t (seen_sound t i s))
+run_rust (charge_cpu i ns time) t s w = rw (at_seen t i) (changed_rust i _ _ (λ a. refines.charge_cpu_rust a ns time) (at t i) t (seen_sound t i s))
+run_rust (charge_memory i bytes) t s w = rw (at_seen t i) (changed_rust i _ _ (λ a. refines.charge_memory_rust a bytes) (at t i) t (seen_sound t i s))
+run_rust (release_memory i bytes) t s w = rw (at_seen t i) (changed_rust i _ _ (λ a. refines.release_memory_rust a bytes) (at t i) t (seen_sound t i s))
+run_rust (carve_out i cpu memory time) t s w = rw (at_seen t i) (carved_from_rust i cpu memory time (at t i) t (seen_sound t i s))
+run_rust (release_child i child) t s w =
+    rw (at_seen t i, at_seen t child)
+    (returned_to_rust i child (at t i) (at t child) t (seen_sound t i s) (seen_sound t child s) w)
+
+pub replies_rust : (os : List Operation) (t : Places Budget) → AllSound (all_seen t) → AllReturnOwn os t → replies os (all_seen t) ≡ map reply_seen (rust_replies os t)
+replies_rust [] t s w = refl
+replies_rust (o ∷ os) t s w =
+    let e : run o (all_seen t) ≡ reply_seen (rust_run o t) = run_rust o t s w.0 in
+    let k : AllSound (all_seen (rust_run o t).after) = rw e at (run_kept o (all_seen t) s) in
+    ap (λ (r : Reply Account). r ∷ replies os r.after) e
+    ∙ ap (λ (l : List (Reply Account)). reply_seen (rust_run o t) ∷ l) (replies_rust os (rust_run o t).after k w.1)
+
+-- Demand 2 for accounts alone.
+pub demand2 : (os : List Operation) → AllReturnOwn os [] → replies os [] ≡ map reply_seen (rust_replies os [])
+demand2 os w = replies_rust os [] tt w
+
+-- So no refusal is added along the way, whoever's child is returned: the Rust's answers have other numbers than 1.
+
+abbrev NotAdded : Answer → Type 0
+NotAdded r = is_added (some r) ≡ false
+
+error_not_added : (e : BudgetError) → NotAdded (error e)
+error_not_added zero_period = refl
+error_not_added cpu_budget_exceeds_period = refl
+error_not_added cpu_limit_exceeded = refl
+error_not_added memory_limit_exceeded = refl
+error_not_added memory_limit_reached = refl
+error_not_added memory_underflow = refl
+error_not_added reservation_underflow = refl
+
+answer_not_added : {A : Type 0} (r : Result A) → NotAdded (answer r)
+answer_not_added (ok a) = refl
+answer_not_added (err e) = error_not_added e
+
+renewal_not_added : (b : Bool) → NotAdded (renewal b)
+renewal_not_added true = refl
+renewal_not_added false = refl
+
+charged_not_added : (b : Bool) → NotAdded (charged b)
+charged_not_added true = refl
+charged_not_added false = refl
+
+changed_not_added : (i : ℕ) (f : Account → Outcome) → ((a : Account) → sound a ≡ true → NotAdded (f a).answer) → (x : Option Account) (t : Places Account) → SoundAt x
+    → is_added (changed i f x t).answer ≡ false
+changed_not_added i f h none t p = refl
+changed_not_added i f h (some a) t p = h a p
+
+carved_not_added : (i cpu memory time : ℕ) (x : Option Account) (t : Places Account) → SoundAt x → is_added (carved_from i cpu memory time x t).answer ≡ false
+carved_not_added i cpu memory time none t p = refl
+carved_not_added i cpu memory time (some a) t p = rw (refines.carve_out_rust a cpu memory time p) (answer_not_added (rust.carve_out a cpu memory time).result)
+
+returned_not_added : (i child : ℕ) (x y : Option Account) (t : Places Account) → SoundAt x → SoundAt y → is_added (returned_to i child x y t).answer ≡ false
+returned_not_added i child none y t p q = refl
+returned_not_added i child (some a) none t p q = refl
+returned_not_added i child (some a) (some c) t p q = rw (refines.release_child_rust a c p q) (answer_not_added (rust.release_child true a c).result)
+
+run_not_added : (o : Operation) (t : Places Account) → AllSound t → is_added (run o t).answer ≡ false
+run_not_added (open_account cpu memory time) t s = rw (refines.open_account_rust cpu memory time) (answer_not_added (rust.new cpu period memory time))
+run_not_added (refill i time) t s =
+    changed_not_added i _ (λ a p. rw (refines.refill_rust a time p) (renewal_not_added (rust.refill a time).result)) (at t i) t (at_sound t i s)
+run_not_added (charge_cpu i ns time) t s =
+    changed_not_added i _ (λ a p. rw (refines.charge_cpu_rust a ns time p) (charged_not_added (rust.charge_cpu a ns time).result)) (at t i) t (at_sound t i s)
+run_not_added (charge_memory i bytes) t s =
+    changed_not_added i _ (λ a p. rw (refines.charge_memory_rust a bytes p) (answer_not_added (rust.charge_memory a bytes).result)) (at t i) t (at_sound t i s)
+run_not_added (release_memory i bytes) t s =
+    changed_not_added i _ (λ a p. rw (refines.release_memory_rust a bytes p) (answer_not_added (rust.release_memory a bytes).result)) (at t i) t (at_sound t i s)
+run_not_added (carve_out i cpu memory time) t s = carved_not_added i cpu memory time (at t i) t (at_sound t i s)
+run_not_added (release_child i child) t s = returned_not_added i child (at t i) (at t child) t (at_sound t i s) (at_sound t child s)
+
+not_added : (os : List Operation) (t : Places Account) → AllSound t → NoneAdded os t
+not_added [] t s = tt
+not_added (o ∷ os) t s = (run_not_added o t s, not_added os (run o t).after (run_kept o t s))
+
+pub none_added : (os : List Operation) → NoneAdded os []
+none_added os = not_added os [] tt
+
+-- The lent forms, by their contracts: on a sound account they are the Rust's methods, which take `&mut self`.
+
+lent_is : (r : Outcome) (exit : Account) (said : Answer) → Lent r exit said → outcome said exit ≡ r
+lent_is r exit said h = rw (h.0, h.1)
+
+pub refill_lent_rust : (entry exit : Account) (time : ℕ) (said : Answer) → sound entry ≡ true → Lent (account.refill entry time) exit said
+    → outcome said exit ≡ refill_of (rust.refill entry time)
+refill_lent_rust entry exit time said p h = lent_is _ exit said h ∙ refines.refill_rust entry time p
+
+pub charge_cpu_lent_rust : (entry exit : Account) (ns time : ℕ) (said : Answer) → sound entry ≡ true → Lent (account.charge_cpu entry ns time) exit said
+    → outcome said exit ≡ charge_of (rust.charge_cpu entry ns time)
+charge_cpu_lent_rust entry exit ns time said p h = lent_is _ exit said h ∙ refines.charge_cpu_rust entry ns time p
+
+-- A caller may lend the account at a place instead: the reply is the operation's, so the lists above are also those with lent accounts.
+
+pub refill_lent_run : (i time : ℕ) (t : Places Account) (entry exit : Account) (said : Answer) → at t i ≡ some entry → Lent (account.refill entry time) exit said
+    → answered said (put i exit t) ≡ run (refill i time) t
+refill_lent_run i time t entry exit said e h = rw (e, h.0, h.1)
+
+pub charge_cpu_lent_run : (i ns time : ℕ) (t : Places Account) (entry exit : Account) (said : Answer) → at t i ≡ some entry → Lent (account.charge_cpu entry ns time) exit said
+    → answered said (put i exit t) ≡ run (charge_cpu i ns time) t
+charge_cpu_lent_run i ns time t entry exit said e h = rw (e, h.0, h.1)
+
+-- Which lists these are. Of the operations other than the return of a child nothing is asked; a child may go to the account that it was carved out of, and from an
+-- empty place nothing goes anywhere.
+
+module _ (t : Places Budget) where
+  pub open_account_own : (cpu memory time : ℕ) → returns_own (open_account cpu memory time) t ≡ true
+  open_account_own cpu memory time = refl
+
+  pub refill_own : (i time : ℕ) → returns_own (refill i time) t ≡ true
+  refill_own i time = refl
+
+  pub charge_cpu_own : (i ns time : ℕ) → returns_own (charge_cpu i ns time) t ≡ true
+  charge_cpu_own i ns time = refl
+
+  pub charge_memory_own : (i bytes : ℕ) → returns_own (charge_memory i bytes) t ≡ true
+  charge_memory_own i bytes = refl
+
+  pub release_memory_own : (i bytes : ℕ) → returns_own (release_memory i bytes) t ≡ true
+  release_memory_own i bytes = refl
+
+  pub carve_out_own : (i cpu memory time : ℕ) → returns_own (carve_out i cpu memory time) t ≡ true
+  carve_out_own i cpu memory time = refl
+
+  pub release_child_own : (i child : ℕ) (a : Account) → at t child ≡ some (budget (some i) a) → returns_own (release_child i child) t ≡ true
+  release_child_own i child a h = rw h (eq-eqb i i refl)
+
+  pub release_none_own : (i child : ℕ) → at t child ≡ none → returns_own (release_child i child) t ≡ true
+  release_none_own i child h = rw h
+
+-- A list of all seven operations, which meets every answer that the Rust has, and so the numbers 0, 2, 11, 12 and 15; at the end place 1 is empty.
+
+abbrev pub every : List Operation
+every =
+    open_account 10_000_001 1_000_000 0 ∷ open_account 10_000_000 1_000_000 0
+    ∷ charge_memory 0 4_096 ∷ charge_memory 0 1_000_000 ∷ release_memory 0 4_097 ∷ release_memory 0 96
+    ∷ carve_out 0 4_000_000 8_192 0 ∷ carve_out 0 6_000_001 0 0 ∷ carve_out 0 0 1_000_000 0
+    ∷ charge_cpu 0 6_000_000 0 ∷ charge_cpu 0 1 0 ∷ refill 0 9_999_999 ∷ refill 0 25_000_000
+    ∷ charge_memory 1 1 ∷ release_child 0 1 ∷ release_memory 1 1 ∷ release_child 0 1 ∷ refill 1 25_000_000 ∷ []
+
+abbrev pub every_answer : List (Option Answer)
+every_answer =
+    some CpuBudgetExceedsPeriod ∷ some Done
+    ∷ some Done ∷ some MemoryLimitReached ∷ some MemoryUnderflow ∷ some Done
+    ∷ some Done ∷ some CpuLimitExceeded ∷ some MemoryLimitExceeded
+    ∷ some Done ∷ some CpuLimitReached ∷ some NotDue ∷ some Renewed
+    ∷ some Done ∷ some ReservationUnderflow ∷ some Done ∷ some Done ∷ none ∷ []
+
+abbrev number_of : Option Answer → Option ℕ
+number_of none = none
+number_of (some r) = some (number r)
+
+pub every_own : AllReturnOwn every []
+unfolding rust.refill rust.charge_cpu_refilled rust.charge_memory rust.release_memory rust.carve_out_refilled rust.release_child
+every_own =
+    (refl, (refl, (refl, (refl, (refl, (refl, (refl, (refl, (refl, (refl, (refl, (refl, (refl, (refl, (refl, (refl, (refl, (refl, tt))))))))))))))))))
+
+pub every_answers : map (λ r. r.answer) (replies every []) ≡ every_answer
+unfolding sound account.due account.renew account.spent account.carved account.returnable
+every_answers = refl
+
+pub every_rust_answers : map (λ r. r.answer) (rust_replies every []) ≡ every_answer
+unfolding rust.refill rust.charge_cpu_refilled rust.charge_memory rust.release_memory rust.carve_out_refilled rust.release_child
+every_rust_answers = refl
+
+pub every_number : map number_of every_answer
+    ≡ some 2 ∷ some 0 ∷ some 0 ∷ some 12 ∷ some 11 ∷ some 0 ∷ some 0 ∷ some 12 ∷ some 12 ∷ some 0 ∷ some 12 ∷ some 0 ∷ some 0
+    ∷ some 0 ∷ some 15 ∷ some 0 ∷ some 0 ∷ none ∷ []
+every_number = refl
+
+-- A child carved and returned to its parent is such a list; its place is then empty, and nothing can be returned from it again.
+
+abbrev carve_and_return : List Operation
+carve_and_return = open_account 10_000_000 1_000_000 0 ∷ carve_out 0 4_000_000 8_192 0 ∷ release_child 0 1 ∷ release_child 0 1 ∷ []
+
+pub carve_and_return_own : AllReturnOwn carve_and_return []
+unfolding rust.carve_out_refilled rust.refill rust.release_child
+carve_and_return_own = (refl, (refl, (refl, (refl, tt))))
+
+pub carve_and_return_answers : map (λ r. r.answer) (replies carve_and_return []) ≡ some Done ∷ some Done ∷ some Done ∷ none ∷ []
+unfolding sound account.due account.renew account.carved account.returnable
+carve_and_return_answers = refl
+
+-- A child of account 0 is returned to account 1: here the two differ, so that this has to be asked of the lists.
+
+abbrev foreign : List Operation
+foreign = open_account 10_000_000 1_000_000 0 ∷ open_account 10_000_000 1_000_000 0 ∷ carve_out 0 0 0 0 ∷ release_child 1 2 ∷ []
+
+pub foreign_answers : map (λ r. r.answer) (replies foreign []) ≡ some Done ∷ some Done ∷ some Done ∷ some Done ∷ []
+unfolding sound account.due account.renew account.carved account.returnable
+foreign_answers = refl
+
+pub foreign_rust_answers : map (λ r. r.answer) (rust_replies foreign []) ≡ some Done ∷ some Done ∷ some Done ∷ some ReservationUnderflow ∷ []
+unfolding rust.carve_out_refilled rust.refill rust.release_child
+foreign_rust_answers = refl

@@ -1,0 +1,18 @@
+-- `carv_objects::charge_of` meets its contract. Assumes nothing.
+use borrow.Author.Rules.{rules}
+use Rattle.carv_objects.specs.Laws.Entry.{entry_refused, entry_sound, entry_served}
+use mathlib.Core.Path.{ap}
+use mathlib.Core.Bool.{not}
+use Rattle.carv_objects.proofs.charge_of.Goals as goal
+
+pub returns-then-not-is_sound : goal.returns-then-not-is_sound
+returns-then-not-is_sound c =
+    entry_refused _ _ _ c.is_sound.ensures (ap not c.if-not-is_sound.true)
+
+pub charge_of-requires : goal.charge_of-requires
+charge_of-requires c =
+    entry_sound _ _ c.is_sound.ensures (ap not c.if-not-is_sound.false)
+
+pub returns : goal.returns
+returns c =
+    entry_served _ _ _ c.is_sound.ensures (ap not c.if-not-is_sound.false) _ _ c.charge_of.ensures

@@ -1,0 +1,13 @@
+-- `carv_objects::opening::write_only` meets its contract. Assumes nothing.
+use borrow.Author.Rules.{rules}
+use mathlib.Core.Path.{refl}
+use Rattle.carv_objects.specs.Laws.Opening.{cleared_stored, cleared_room, only_row}
+use Rattle.carv_objects.proofs.opening.write_only.Goals as goal
+
+pub append_entry-requires : goal.append_entry-requires
+append_entry-requires c =
+    record { stored = cleared_stored c.args.t.now _ c.requires _ refl c.clear.ensures.words; t_in_bounds = cleared_room c.args.t.now _ c.requires _ refl c.clear.ensures.words c.clear.auto.t }
+
+pub returns : goal.returns
+returns c =
+    only_row c.args.t.now _ c.requires _ refl c.clear.ensures.words _ _ c.append_entry.ensures

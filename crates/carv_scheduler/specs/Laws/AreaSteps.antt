@@ -1,0 +1,146 @@
+-- What the functions on one part of the board's area leave. Assumes nothing.
+use Rattle.std.specs.Prelude.{◌≡◌, ℕ, ◌+◌, ◌*◌, ◌/◌, ◌^◌, ◌<◌, ◌≤◌, List, length, get_or, slice_index, slice_index_or, slice_set, refl}
+use Rattle.std.proofs.Common.{arith, sym, ◌∙◌, length-set}
+use Rattle.std.proofs.Math.Path.{ap}
+use Rattle.std.proofs.Math.Option.{none}
+use Rattle.std.proofs.Math.Seq.{get_or-set_same, get_or-set_other}
+use Rattle.carv_area.specs.Table.{Row, at, put}
+use Rattle.carv_area.specs.Laws.Table.{rising_put}
+use Rattle.carv_area.specs.Words.{words}
+use Rattle.carv_area.specs.Laws.Words.{length_words}
+use Rattle.carv_area.specs.Parts.{part, put_part}
+use Rattle.carv_area.specs.Laws.Parts.{length_part}
+use Rattle.carv_area.specs.Moves.{cut_row, open_row}
+use Rattle.carv_area.specs.Rows.{remove_at, insert_at}
+use Rattle.carv_area.specs.Keys.{keys, find_in}
+use Rattle.carv_area.specs.Stored.{Keyed}
+use Rattle.carv_area.specs.Laws.Stored.{stored_room, stored_set, stored_remove, stored_insert}
+use Rattle.carv_area.specs.Search.{rank_in}
+use Rattle.carv_area.specs.Laws.Lookup as lookup
+use Rattle.carv_area.specs.Lookup.{Located}
+use Rattle.carv_area.specs.declared.Found.{Found}
+use Rattle.carv_objects.specs.Laws.AreaSteps.{rising_set, rising_remove}
+use Rattle.carv_scheduler_spec.specs.declared.Thread.{Thread}
+use Rattle.carv_scheduler_spec.specs.Scheduler.{Board}
+use Rattle.carv_scheduler.specs.Area.{head, threads_part, queue_part, thread_fields, thread_at, decode}
+use Rattle.carv_scheduler.specs.Laws.Rows.{row, no_row, wide, set_thread, thread_at_is}
+use Rattle.carv_scheduler.specs.Laws.Formed.{WellFormed, Leaves, head_written, threads_written}
+
+abbrev pub with_head : (current switches : ℕ) → Board → Board
+with_head current switches b = record { registry = b.registry; threads = b.threads; queue = b.queue; current = current; switches = switches; exits = b.exits }
+
+abbrev pub with_threads : List (Row Thread) → Board → Board
+with_threads m b = record { registry = b.registry; threads = m; queue = b.queue; current = b.current; switches = b.switches; exits = b.exits }
+
+abbrev pub with_queue : List ℕ → Board → Board
+with_queue q b = record { registry = b.registry; threads = b.threads; queue = q; current = b.current; switches = b.switches; exits = b.exits }
+
+-- the lengths of the parts
+module _ (a : List ℕ) (z : length a ≡ 68_144) where
+  pub length_registry : length (part 0 45_072 a) ≡ 45_072
+  length_registry = length_part 0 45_072 a (omega arith)
+
+  pub length_head : length (part 45_072 16 a) ≡ 16
+  length_head = length_part 45_072 16 a (omega arith)
+
+  pub length_threads : length (part 45_088 21_512 a) ≡ 21_512
+  length_threads = length_part 45_088 21_512 a (omega arith)
+
+  pub length_queue : length (part 66_600 1_024 a) ≡ 1_024
+  length_queue = length_part 66_600 1_024 a (omega arith)
+
+-- the place among rising ids of an id that no thread has
+pub record Placed (m : List (Row Thread)) (x i : ℕ) : Type 0 where
+  pub within : at m x ≡ none → i ≤ length m
+  pub is : at m x ≡ none → (t : Thread) → put x t m ≡ insert_at m i (row x t)
+
+-- no thread has the id, which is a 64-bit number, and there is a place
+pub record New (m : List (Row Thread)) (x : ℕ) : Type 0 where
+  pub fresh : at m x ≡ none
+  pub few : length m < 128
+  pub fits : x < 2 ^ 64
+
+-- What is read of a well-formed area.
+module _ (a : List ℕ) (k : WellFormed a) where
+  pub thread_placed : (x i : ℕ) → i ≡ rank_in (keys 21 (words (threads_part a))) x → Placed (decode a).threads x i
+  thread_placed x i e =
+      let r : at (decode a).threads x ≡ none → (i ≤ length (decode a).threads) × ((t : Thread) → put x t (decode a).threads ≡ insert_at (decode a).threads i (row x t)) =
+      λ n. lookup.rows_placed thread_fields 21 wide (λ r. refl) no_row (omega arith) (threads_part a) (decode a).threads k.threads x i e n in
+      record { within = λ n. (r n).0; is = λ n. (r n).1 }
+
+  -- there is room for one more
+  pub threads_space : length (decode a).threads < 128 → length (threads_part a) ≡ 21_512 → (slice_index (words (threads_part a)) 0 * 21 + 21 + 1) * 8 ≤ length (threads_part a)
+  threads_space h z = let c : get_or (words (threads_part a)) 0 0 ≡ length (decode a).threads = k.threads.holds.count in rw c (omega arith)
+
+  pub place_counted : (i : ℕ) → i ≤ length (decode a).threads → i ≤ slice_index (words (threads_part a)) 0
+  place_counted i h = omega (arith, k.threads.holds.count)
+
+  pub threads_count : (n : ℕ) → n ≡ slice_index (words (threads_part a)) 0 → n ≡ length (decode a).threads
+  threads_count n e = e ∙ k.threads.holds.count
+
+  pub threads_keyed : Keyed 21 (threads_part a)
+  threads_keyed = lookup.rows_keyed thread_fields 21 wide (λ r. refl) no_row (omega arith) (threads_part a) (decode a).threads k.threads 0 (2 ^ 64) k.rising
+
+  pub thread_found : (x : ℕ) (p : Found) → p ≡ find_in (keys 21 (words (threads_part a))) x → Located no_row (decode a).threads x p
+  thread_found x p e = lookup.rows_located thread_fields 21 wide (λ r. refl) no_row (omega arith) (threads_part a) (decode a).threads k.threads x p e
+
+  pub threads_room : (slice_index (words (threads_part a)) 0 * 21 + 1) * 8 ≤ length (threads_part a)
+  threads_room = stored_room thread_fields 21 (threads_part a) (decode a).threads k.threads
+
+  pub thread_counted : (i : ℕ) → i < length (decode a).threads → i < slice_index (words (threads_part a)) 0
+  thread_counted i h = omega (arith, k.threads.holds.count)
+
+  module _ (i : ℕ) (h : i < length (decode a).threads) where
+    thread_is_at : thread_at (words (threads_part a)) i ≡ slice_index_or (decode a).threads i no_row
+    thread_is_at = thread_at_is (words (threads_part a)) (decode a).threads k.threads.holds i h
+
+    pub thread_room : (i * 21 + 21) * 8 + 8 ≤ length (threads_part a)
+    thread_room = let s = k.threads.holds.size in let z = k.threads.size in omega arith
+
+    pub thread_is : (x : Thread) → x ≡ (thread_at (words (threads_part a)) i).it → x ≡ (get_or (decode a).threads i no_row).it
+    thread_is x e = e ∙ ap (λ (r : Row Thread). r.it) thread_is_at
+
+    pub thread_id_is : (x : ℕ) → x ≡ slice_index (words (threads_part a)) (i * 21 + 1) → x ≡ (get_or (decode a).threads i no_row).id
+    thread_id_is x e = e ∙ ap (λ (r : Row Thread). r.id) thread_is_at
+
+-- What is left where one part was written, p.
+module _ (a : List ℕ) (k : WellFormed a) (p : List ℕ) where
+  pub head_set : (x n : ℕ) (l : List ℕ) → length p ≡ 16 → l ≡ slice_set (words (head a)) 0 x → words p ≡ slice_set l 1 n → Leaves (put_part 45_072 16 a p) (with_head x n (decode a))
+  unfolding head
+  head_set x n l z e q =
+      let w : length (words (part 45_072 16 a)) ≡ 2 = length_words (part 45_072 16 a) ∙ ap (λ (m : ℕ). m / 8) (length_head a k.size) in
+      let m : length l ≡ 2 = rw (e, length-set) w in
+      head_written a k p x n z
+      (ap (λ (u : List ℕ). slice_index u 0) q ∙ get_or-set_other l 1 0 n 0 (λ c. omega arith) ∙ ap (λ (u : List ℕ). slice_index u 0) e ∙ get_or-set_same (words (part 45_072 16 a)) 0 x 0 (omega arith))
+      (ap (λ (u : List ℕ). slice_index u 1) q ∙ get_or-set_same l 1 n 0 (omega arith))
+
+  module _ (z : length p ≡ 21_512) where
+    pub thread_set : (i x : ℕ) (t : Thread) → i < length (decode a).threads → (get_or (decode a).threads i no_row).id ≡ x → words p ≡ set_thread (words (threads_part a)) i (row x t)
+        → Leaves (put_part 45_088 21_512 a p) (with_threads (slice_set (decode a).threads i (row x t)) (decode a))
+    unfolding set_thread
+    thread_set i x t h same q =
+        threads_written a k p (slice_set (decode a).threads i (row x t)) z (stored_set thread_fields 21 wide (threads_part a) p (decode a).threads k.threads i (row x t) h q)
+        (rising_set (decode a).threads 0 (2 ^ 64) i no_row (row x t) k.rising (sym same))
+
+    pub thread_inserted : (i x : ℕ) (t : Thread) → Placed (decode a).threads x i → New (decode a).threads x → length (threads_part a) ≡ 21_512
+        → words p ≡ set_thread (open_row 21 i (slice_index (words (threads_part a)) 0) (words (threads_part a))) i (row x t)
+        → Leaves (put_part 45_088 21_512 a p) (with_threads (put x t (decode a).threads) (decode a))
+    unfolding set_thread
+    thread_inserted i x t w n y q =
+        threads_written a k p (put x t (decode a).threads) z
+        (rw (w.is n.fresh t) (stored_insert thread_fields 21 wide (threads_part a) p (decode a).threads k.threads i (row x t) (w.within n.fresh) (threads_space a k n.few y) q))
+        (rising_put (decode a).threads 0 (2 ^ 64) x t (omega arith) n.fits k.rising)
+
+    pub thread_removed : (i : ℕ) → i < length (decode a).threads → words p ≡ cut_row 21 i (slice_index (words (threads_part a)) 0) (words (threads_part a))
+        → Leaves (put_part 45_088 21_512 a p) (with_threads (remove_at (decode a).threads i) (decode a))
+    thread_removed i h q =
+        threads_written a k p (remove_at (decode a).threads i) z (stored_remove thread_fields 21 wide (threads_part a) p (decode a).threads k.threads no_row i h q)
+        (rising_remove (decode a).threads 0 (2 ^ 64) i k.rising)
+
+-- The queue.
+module _ (a : List ℕ) (k : WellFormed a) where
+  pub queue_count : (n : ℕ) → n ≡ slice_index (words (queue_part a)) 0 → n ≡ length (decode a).queue
+  queue_count n e = e ∙ k.queue.holds.count
+
+  pub queue_room : (i : ℕ) → i < length (decode a).queue → (i + 1) * 8 + 8 ≤ length (queue_part a)
+  queue_room i h = let s = k.queue.holds.size in let z = k.queue.size in omega arith

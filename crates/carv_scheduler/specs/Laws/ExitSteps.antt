@@ -1,0 +1,126 @@
+-- The exit log: what its functions read and leave. Assumes nothing.
+use Rattle.std.specs.Prelude.{◌≡◌, ℕ, suc, ◌+◌, ◌*◌, ◌<◌, ◌≤◌, true, cond, List, [], ◌∷◌, ◌++◌, length, drop, set, ◌==◌, ◌≢◌, slice_index, slice_index_or, slice_set, refl}
+use Rattle.std.proofs.Common.{sym, ap, ◌∙◌, subst, add-one, arith, length-drop, drop_of_length-le, drop-cons, eq-eqb, ne_eqb}
+use Rattle.std.proofs.Math.Option.{Option, none, some}
+use Rattle.std.proofs.lemmas.Bool.{eqb-false}
+use Rattle.carv_area.specs.Laws.Table.{test}
+use Rattle.carv_area.specs.Words.{words}
+use Rattle.carv_area.specs.Parts.{part, put_part}
+use Rattle.carv_area.specs.Laws.Parts.{length_part}
+use Rattle.carv_area.specs.Moves.{cut_row}
+use Rattle.carv_area.specs.Rows.{remove_at}
+use Rattle.carv_area.specs.Stored.{Stored}
+use Rattle.carv_area.specs.Laws.Stored.{stored_room, stored_remove, stored_append}
+use Rattle.carv_scheduler_spec.specs.declared.Exit.{Exit}
+use Rattle.carv_scheduler.specs.declared.Answer.TheVariants.{Cause, NoCause}
+use Rattle.carv_scheduler_spec.specs.Scheduler.{Board, exit_cause, logged, exit_in, exit_of}
+use Rattle.carv_scheduler.specs.Area.{exits_part, exit_fields, exit_at, exits_in, decode, sound_area, Serves}
+use Rattle.carv_scheduler.specs.Laws.Rows.{no_exit, wide_exit, exit_at_is}
+use Rattle.carv_scheduler.specs.Laws.Formed.{WellFormed, Leaves, leaves_as, unchanged, exits_written}
+use Rattle.carv_scheduler.specs.Laws.Calls.{read_serves}
+
+abbrev pub exit : (thread cause : ℕ) → Exit
+exit thread cause = record { thread = thread; cause = cause }
+
+abbrev pub with_exits : List Exit → Board → Board
+with_exits l b = record { registry = b.registry; threads = b.threads; queue = b.queue; current = b.current; switches = b.switches; exits = l }
+
+-- room for one more: of 32 exits the oldest goes
+abbrev pub spared : List Exit → List Exit
+spared l = cond (length l == 32) (drop 1 l) l
+
+pub length_exits : (a : List ℕ) → length a ≡ 68_144 → length (part 67_624 520 a) ≡ 520
+length_exits a z = length_part 67_624 520 a (omega arith)
+
+-- `append_exit`
+pub exit_appended : (t t' : List ℕ) → Stored exit_fields 2 t (exits_in (words t)) → (e : Exit) (n : ℕ) (l₁ l₂ : List ℕ) → n ≡ slice_index (words t) 0
+    → (length (exits_in (words t)) * 2 + 2) * 8 + 8 ≤ length t → l₁ ≡ slice_set (words t) (n * 2 + 1) e.thread → l₂ ≡ slice_set l₁ (n * 2 + 2) e.cause → words t' ≡ slice_set l₂ 0 (n + 1)
+    → Stored exit_fields 2 t' (exits_in (words t) ++ (e ∷ []))
+exit_appended t t' h e n l₁ l₂ en room p₁ p₂ q =
+    let c : n ≡ length (exits_in (words t)) = en ∙ h.holds.count in
+    let o : n * 2 + 2 ≡ suc (n * 2 + 1) = omega arith in
+    stored_append exit_fields 2 wide_exit t t' (exits_in (words t)) h e n l₂ en (omega arith) (p₂ ∙ ap (λ (l : List ℕ). set l (n * 2 + 2) e.cause) p₁ ∙ ap (λ (k : ℕ). set (slice_set (words t) (n * 2 + 1) e.thread) k e.cause) o) q
+
+-- What is read of a well-formed area.
+module _ (a : List ℕ) (k : WellFormed a) where
+  pub exits_count : (n : ℕ) → n ≡ slice_index (words (exits_part a)) 0 → n ≡ length (decode a).exits
+  exits_count n e = e ∙ k.exits.holds.count
+
+  pub exits_room : (slice_index (words (exits_part a)) 0 * 2 + 1) * 8 ≤ length (exits_part a)
+  exits_room = stored_room exit_fields 2 (exits_part a) (decode a).exits k.exits
+
+  pub exits_few : length (decode a).exits ≤ 32
+  unfolding exits_part
+  exits_few = omega (arith, k.exits.holds.size, k.exits.size, length_exits a k.size)
+
+  module _ (i : ℕ) (h : i < length (decode a).exits) where
+    pub exit_counted : i < slice_index (words (exits_part a)) 0
+    exit_counted = omega (arith, k.exits.holds.count)
+
+    pub exit_room : (i * 2 + 2) * 8 + 8 ≤ length (exits_part a)
+    exit_room = let s = k.exits.holds.size in let z = k.exits.size in omega arith
+
+    pub exit_is : (x : Exit) → x ≡ exit_at (words (exits_part a)) i → x ≡ slice_index_or (decode a).exits i no_exit
+    exit_is x e = e ∙ exit_at_is (words (exits_part a)) (decode a).exits k.exits.holds i h
+
+-- the oldest is the first
+oldest : (l : List Exit) → remove_at l 0 ≡ drop 1 l
+unfolding remove_at
+oldest l = refl
+
+-- What is left where the log was written, p.
+module _ (a : List ℕ) (k : WellFormed a) (p : List ℕ) (z : length p ≡ 520) where
+  pub oldest_dropped : 0 < length (decode a).exits → words p ≡ cut_row 2 0 (slice_index (words (exits_part a)) 0) (words (exits_part a))
+      → Leaves (put_part 67_624 520 a p) (with_exits (drop 1 (decode a).exits) (decode a))
+  oldest_dropped h q = exits_written a k p (drop 1 (decode a).exits) z
+      (subst (Stored exit_fields 2 p) (oldest (decode a).exits) (stored_remove exit_fields 2 wide_exit (exits_part a) p (decode a).exits k.exits no_exit 0 h q))
+
+-- `log_exit`: room, then one more.
+module _ (l : List Exit) where
+  pub spared_few : length l ≤ 32 → length (spared l) < 32
+  spared_few h = test (length l == 32)
+      (λ e. rw (e, length-drop 1 l) (omega arith))
+      (λ e. rw e (below (length l) h (eqb-false (length l) 32 e)))
+    where
+      below : (n : ℕ) → n ≤ 32 → (n ≢ 32) → n < 32
+      below n h d = omega arith
+
+module _ (a : List ℕ) (k : WellFormed a) (n : ℕ) (c : n ≡ length (decode a).exits) where
+  pub full_some : n ≡ 32 → 0 < length (decode a).exits
+  full_some e = omega arith
+
+  pub room_made : n ≡ 32 → (a' : List ℕ) → Leaves a' (with_exits (drop 1 (decode a).exits) (decode a)) → Leaves a' (with_exits (spared (decode a).exits) (decode a))
+  room_made e a' h = rw (eq-eqb (length (decode a).exits) 32 (sym c ∙ e)) h
+
+  pub room_there : (n ≢ 32) → Leaves a (with_exits (spared (decode a).exits) (decode a))
+  room_there e = rw (ne_eqb (length (decode a).exits) 32 (λ q. e (c ∙ q))) (unchanged a k)
+
+module _ (a a₁ : List ℕ) (k : WellFormed a) (h : Leaves a₁ (with_exits (spared (decode a).exits) (decode a))) where
+  pub logged_room : length (decode a₁).exits < 32
+  logged_room = subst (λ (b : Board). length b.exits < 32) (sym h.is) (spared_few (decode a).exits (exits_few a k))
+
+  pub logged_left : (e : Exit) (a₂ : List ℕ) → Leaves a₂ (with_exits ((decode a₁).exits ++ (e ∷ [])) (decode a₁)) → Leaves a₂ (with_exits (logged e (decode a).exits) (decode a))
+  logged_left e a₂ m = leaves_as a₂ _ _ (ap (λ (b : Board). with_exits (b.exits ++ (e ∷ [])) b) h.is) m
+
+-- the walk of `exit_of`: what is found from place i on
+module _ (l : List Exit) (x i : ℕ) (w : Option ℕ) (k : exit_in x (drop i l) ≡ w) where
+  pub exit_ends : length l ≤ i → none ≡ w
+  exit_ends h = ap (exit_in x) (sym (drop_of_length-le l h)) ∙ k
+
+  module _ (h : i < length l) (e : Exit) (q : e ≡ slice_index_or l i no_exit) where
+    exit_turn : cond (e.thread == x) (some e.cause) (exit_in x (drop (suc i) l)) ≡ w
+    exit_turn = rw q (sym (ap (exit_in x) (drop-cons l i no_exit h)) ∙ k)
+
+    pub exit_found : e.thread ≡ x → some e.cause ≡ w
+    exit_found t = rw (eq-eqb e.thread x t) at exit_turn
+
+    pub exit_on : (e.thread ≢ x) → exit_in x (drop (i + 1) l) ≡ w
+    exit_on t = rw add-one (rw (ne_eqb e.thread x t) at exit_turn)
+
+-- its answer
+module _ (a : List ℕ) (s : sound_area a ≡ true) (x : ℕ) where
+  pub cause_served : (c : ℕ) → some c ≡ exit_in x (decode a).exits → Serves (exit_of x) a (Cause c) a
+  cause_served c e = read_serves (exit_of x) a s (exit_of x (decode a)) refl refl (Cause c) refl (ap (λ (o : Option ℕ). some (exit_cause o)) e)
+
+  pub no_cause_served : none ≡ exit_in x (decode a).exits → Serves (exit_of x) a NoCause a
+  no_cause_served e = read_serves (exit_of x) a s (exit_of x (decode a)) refl refl NoCause refl (ap (λ (o : Option ℕ). some (exit_cause o)) e)

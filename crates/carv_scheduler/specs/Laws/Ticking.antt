@@ -1,0 +1,122 @@
+-- `tick` in the area: the current thread's run tick and its charge, and then the waking. Assumes nothing.
+use Rattle.std.specs.Prelude.{◌≡◌, ℕ, ◌*◌, ◌<◌, ◌≤◌, Bool, true, false, cond, List, [], ◌∷◌, set, ◌==◌, ◌≢◌, slice_index_or, slice_set, refl}
+use Rattle.std.proofs.Common.{sym, ◌∙◌, eqb-true, eq-eqb, ne_eqb, le-leb}
+use Rattle.std.proofs.Math.Path.{ap}
+use Rattle.std.proofs.lemmas.Bool.{false≢true, lt-leb}
+use Rattle.std.proofs.Math.Option.{none}
+use Rattle.carv_area.specs.Table.{Row, alter, pick}
+use Rattle.carv_area.specs.Lookup.{Here, Gone}
+use Rattle.carv_objects_spec.specs.Reply.{refuse, accept}
+use Rattle.carv_objects_spec.specs.Registry.{Registry, charge_most}
+use Rattle.carv_scheduler_spec.specs.declared.BudgetId.{BudgetId}
+use Rattle.carv_scheduler_spec.specs.declared.Thread.{Thread}
+use Rattle.carv_scheduler.specs.declared.Answer.TheVariants.{Done}
+use Rattle.carv_scheduler_spec.specs.Scheduler.{Board, tick_ns, is_due, thread, has, ticked, with_registry, with_threads, charge_tick, wake_all, tick}
+use Rattle.carv_scheduler_spec.proofs.Laws.SoundFacts.{Sound}
+use Rattle.carv_scheduler_spec.proofs.Laws.Steps.{registry_kept, charge_tick_kept, ticked_kept}
+use Rattle.carv_scheduler_spec.proofs.Laws.Kept.{tick_kept}
+use Rattle.carv_scheduler.specs.Area.{decode, sound_area, Is, Serves}
+use Rattle.carv_scheduler.specs.Laws.Rows.{row, no_row}
+use Rattle.carv_scheduler.specs.Laws.Formed.{Leaves, leaves_as}
+use Rattle.carv_scheduler.specs.Laws.AreaSteps as area
+use Rattle.carv_scheduler.specs.Laws.AreaLaws.{area_sound, area_formed, is_area}
+use Rattle.carv_scheduler.specs.Laws.Calls.{answered}
+use Rattle.carv_scheduler.specs.Laws.Places.{here_thread, gone_has}
+
+-- the board b after the current thread's tick at this time, before the waking
+unfoldable pub accounted : (time : ℕ) → Board → Board
+accounted time b =
+    with_registry (charge_tick time (thread b.threads b.current).budget b.registry) (with_threads (alter b.current ticked b.threads) b.queue b)
+
+-- a tick changes neither state nor wait
+picked_ticked : (n x : ℕ) (m : List (Row Thread)) → pick (is_due n) (alter x ticked m) ≡ pick (is_due n) m
+picked_ticked n x [] = refl
+picked_ticked n x (r ∷ m) = split (r.id == x) refl (picked_ticked n x m)
+  where
+    split : (c : Bool) → (r.id == x) ≡ c → pick (is_due n) (alter x ticked m) ≡ pick (is_due n) m
+        → pick (is_due n) (cond c (record { id = x; it = ticked r.it } ∷ m) (r ∷ alter x ticked m)) ≡ pick (is_due n) (r ∷ m)
+    split true e h = ap (λ (y : ℕ). cond (is_due n r.it) (y ∷ pick (is_due n) m) (pick (is_due n) m)) (sym (eqb-true r.id x e))
+    split false e h = ap (λ (q : List ℕ). cond (is_due n r.it) (r.id ∷ q) q) h
+
+-- `tick`, question by question
+module _ (n : ℕ) (b : Board) where
+  pub tick_late : 18_446_744_073_709 < n → tick n b ≡ refuse 3 b
+  tick_late h = rw (lt-leb n 18_446_744_073_709 h)
+
+  pub tick_done : n ≤ 18_446_744_073_709 → tick n b ≡ accept none (wake_all (pick (is_due n) (accounted (n * tick_ns) b).threads) (accounted (n * tick_ns) b))
+  unfolding accounted
+  tick_done h = rw (le-leb n 18_446_744_073_709 h, picked_ticked n b.current b.threads)
+
+-- the charge, with and without a budget
+module _ (time : ℕ) (p : BudgetId) (r : Registry) where
+  charge_none : p.is ≡ 0 → r ≡ charge_tick time p r
+  charge_none e = rw (eq-eqb p.is 0 e)
+
+  charge_some : (p.is ≢ 0) → charge_most p.id tick_ns time r ≡ charge_tick time p r
+  charge_some e = rw (ne_eqb p.is 0 e)
+
+-- the current thread, x, stands at place i
+module _ (time : ℕ) (b : Board) (x i : ℕ) (ex : x ≡ b.current) (h : Here no_row b.threads x i) where
+  threads_ticked : set b.threads i (row (slice_index_or b.threads i no_row).id (ticked (slice_index_or b.threads i no_row).it)) ≡ alter b.current ticked b.threads
+  threads_ticked =
+      ap (λ (y : ℕ). set b.threads i (row y (ticked (slice_index_or b.threads i no_row).it))) h.same ∙ sym (h.changed ticked)
+      ∙ ap (λ (y : ℕ). alter y ticked b.threads) ex
+
+  payer_is : (slice_index_or b.threads i no_row).it.budget ≡ (thread b.threads b.current).budget
+  payer_is = sym (ap (λ (y : ℕ). (thread b.threads y).budget) (sym ex) ∙ ap (λ (t : Thread). t.budget) (here_thread b.threads x i h))
+
+  free_is : (slice_index_or b.threads i no_row).it.budget.is ≡ 0
+      → area.with_threads (slice_set b.threads i (row (slice_index_or b.threads i no_row).id (ticked (slice_index_or b.threads i no_row).it))) b ≡ accounted time b
+  unfolding accounted
+  free_is e =
+      let z : (thread b.threads b.current).budget.is ≡ 0 = ap (λ (p : BudgetId). p.is) (sym payer_is) ∙ e in
+      ap (λ (m : List (Row Thread)). area.with_threads m b) threads_ticked
+      ∙ ap (λ (r : Registry). with_registry r (with_threads (alter b.current ticked b.threads) b.queue b)) (charge_none time (thread b.threads b.current).budget b.registry z)
+
+  paid_is : ((slice_index_or b.threads i no_row).it.budget.is ≢ 0)
+      → with_registry (charge_most (slice_index_or b.threads i no_row).it.budget.id tick_ns time b.registry)
+      (area.with_threads (slice_set b.threads i (row (slice_index_or b.threads i no_row).id (ticked (slice_index_or b.threads i no_row).it))) b) ≡ accounted time b
+  unfolding accounted
+  paid_is e =
+      let P = (thread b.threads b.current).budget in
+      let z : P.is ≡ 0 → ⊥ = λ q. e (ap (λ (p : BudgetId). p.is) payer_is ∙ q) in
+      ap (λ (p : BudgetId). with_registry (charge_most p.id tick_ns time b.registry) (area.with_threads (slice_set b.threads i (row (slice_index_or b.threads i no_row).id (ticked (slice_index_or b.threads i no_row).it))) b)) payer_is
+      ∙ ap (λ (m : List (Row Thread)). with_registry (charge_most P.id tick_ns time b.registry) (area.with_threads m b)) threads_ticked
+      ∙ ap (λ (r : Registry). with_registry r (with_threads (alter b.current ticked b.threads) b.queue b)) (charge_some time P b.registry z)
+
+pub accounted_kept : (time : ℕ) (b : Board) → Sound b → Sound (accounted time b)
+unfolding accounted
+accounted_kept time b o =
+    registry_kept (charge_tick time (thread b.threads b.current).budget b.registry) (with_threads (alter b.current ticked b.threads) b.queue b)
+    (charge_tick_kept time (thread b.threads b.current).budget b.registry o.registry) (ticked_kept b b.current o o.current_here)
+
+-- `account`
+module _ (time : ℕ) (a : List ℕ) (s : sound_area a ≡ true) (x : ℕ) (ex : x ≡ (decode a).current) where
+  -- the current thread is there
+  pub account_gone : Gone (decode a).threads x → Is a (accounted time (decode a))
+  account_gone g = absurd (false≢true (sym (gone_has (decode a).threads x g) ∙ ap (has (decode a).threads) ex ∙ (area_sound a s).current_here))
+
+  module _ (i : ℕ) (h : Here no_row (decode a).threads x i) (p : ℕ) (ep : p ≡ (slice_index_or (decode a).threads i no_row).it.budget.is)
+      (a₁ : List ℕ) (l : Leaves a₁ (area.with_threads (slice_set (decode a).threads i (row (slice_index_or (decode a).threads i no_row).id (ticked (slice_index_or (decode a).threads i no_row).it))) (decode a))) where
+    pub account_free : p ≡ 0 → Is a₁ (accounted time (decode a))
+    account_free z =
+        is_area a₁ (accounted time (decode a)) (leaves_as a₁ _ _ (free_is time (decode a) x i ex h (sym ep ∙ z)) l) (accounted_kept time (decode a) (area_sound a s))
+
+    pub account_paid : (p ≢ 0) → (y : ℕ) → y ≡ (slice_index_or (decode a).threads i no_row).it.budget.id
+        → (a₂ : List ℕ) → Leaves a₂ (with_registry (charge_most y tick_ns time (decode a₁).registry) (decode a₁)) → Is a₂ (accounted time (decode a))
+    account_paid ne y ey a₂ m =
+        is_area a₂ (accounted time (decode a))
+        (leaves_as a₂ _ _
+        (ap (λ (b : Board). with_registry (charge_most y tick_ns time b.registry) b) l.is
+        ∙ ap (λ (z : ℕ). with_registry (charge_most z tick_ns time (decode a).registry)
+        (area.with_threads (slice_set (decode a).threads i (row (slice_index_or (decode a).threads i no_row).id (ticked (slice_index_or (decode a).threads i no_row).it))) (decode a))) ey
+        ∙ paid_is time (decode a) x i ex h (λ q. ne (ep ∙ q))) m)
+        (accounted_kept time (decode a) (area_sound a s))
+
+-- `tick`
+pub ticks : (n : ℕ) (a : List ℕ) (s : sound_area a ≡ true) → n ≤ 18_446_744_073_709 → (a₁ a₂ : List ℕ) → Is a₁ (accounted (n * tick_ns) (decode a))
+    → Is a₂ (wake_all (pick (is_due n) (decode a₁).threads) (decode a₁)) → Serves (tick n) a Done a₂
+ticks n a s h a₁ a₂ k m =
+    answered (tick n) a s _ (tick_done n (decode a) h) Done refl refl a₂
+    (record { formed = area_formed a₂ m.sound; is = m.same ∙ ap (λ (b : Board). wake_all (pick (is_due n) b.threads) b) k.same })
+    (tick_kept n (decode a) (area_sound a s))
