@@ -49,8 +49,12 @@ fn no_file_is_written_over_what_is_read() {
             "the picture would be written over the list, ",
         ),
         (
-            vec![list, "--board", board, "--keep", board],
-            "the board would be written over the board to begin with, ",
+            vec![list, "--board", board, "--keep", list],
+            "the board would be written over the list, ",
+        ),
+        (
+            vec![list, "--board", board, "--keep", board, "--svg", board],
+            "the board and the picture would both be written to ",
         ),
         (
             vec![list, "--board", board, "--svg", board],
