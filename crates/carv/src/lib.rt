@@ -186,22 +186,19 @@ fn report(answer: Answer, out: &mut [u64]) -> u64
     }
 }
 
-#[unsafe(no_mangle)]
-pub extern "C" fn carv_is_sound(area: &[u8]) -> bool
+pub fn carv_is_sound(area: &[u8]) -> bool
     ensures { result ≡ sound_area area.now }
 {
     carv_scheduler::is_sound(area)
 }
 
-#[unsafe(no_mangle)]
-pub extern "C" fn carv_image(image: &mut [u8]) -> u64
+pub fn carv_image(image: &mut [u8]) -> u64
     ensures { Filled image.old result image.new }
 {
     carv_scheduler::write_image(image)
 }
 
-#[unsafe(no_mangle)]
-pub extern "C" fn carv_open(area: &mut [u8], cpu: u64, memory: u64, out: &mut [u64]) -> u64
+pub fn carv_open(area: &mut [u8], cpu: u64, memory: u64, out: &mut [u64]) -> u64
     ensures { Opens cpu memory area.old out.old result area.new out.new }
 {
     if out.len() != WORDS {
@@ -211,8 +208,7 @@ pub extern "C" fn carv_open(area: &mut [u8], cpu: u64, memory: u64, out: &mut [u
     report(answer, out)
 }
 
-#[unsafe(no_mangle)]
-pub extern "C" fn carv_create_user_thread(
+pub fn carv_create_user_thread(
     area: &mut [u8],
     id: u64,
     budget: u64,
@@ -232,14 +228,7 @@ pub extern "C" fn carv_create_user_thread(
 // The calls.
 // Written by tools/entries.py from its list of calls; what stands below this line is replaced.
 
-#[unsafe(no_mangle)]
-pub extern "C" fn carv_create(
-    area: &mut [u8],
-    kind: u64,
-    payer: u64,
-    backing: bool,
-    out: &mut [u64],
-) -> u64
+pub fn carv_create(area: &mut [u8], kind: u64, payer: u64, backing: bool, out: &mut [u64]) -> u64
     ensures { Exported (on_objects (objects.create kind payer backing)) area.old out.old result area.new out.new }
 {
     if out.len() != WORDS {
@@ -249,14 +238,7 @@ pub extern "C" fn carv_create(
     report(answer, out)
 }
 
-#[unsafe(no_mangle)]
-pub extern "C" fn carv_insert(
-    area: &mut [u8],
-    kind: u64,
-    payer: u64,
-    bytes: u64,
-    out: &mut [u64],
-) -> u64
+pub fn carv_insert(area: &mut [u8], kind: u64, payer: u64, bytes: u64, out: &mut [u64]) -> u64
     ensures { Exported (on_objects (objects.insert kind payer bytes)) area.old out.old result area.new out.new }
 {
     if out.len() != WORDS {
@@ -266,8 +248,7 @@ pub extern "C" fn carv_insert(
     report(answer, out)
 }
 
-#[unsafe(no_mangle)]
-pub extern "C" fn carv_create_budget(
+pub fn carv_create_budget(
     area: &mut [u8],
     parent: u64,
     cpu: u64,
@@ -284,8 +265,7 @@ pub extern "C" fn carv_create_budget(
     report(answer, out)
 }
 
-#[unsafe(no_mangle)]
-pub extern "C" fn carv_charge_more(area: &mut [u8], id: u64, bytes: u64, out: &mut [u64]) -> u64
+pub fn carv_charge_more(area: &mut [u8], id: u64, bytes: u64, out: &mut [u64]) -> u64
     ensures { Exported (on_objects (objects.charge_more id bytes)) area.old out.old result area.new out.new }
 {
     if out.len() != WORDS {
@@ -295,8 +275,7 @@ pub extern "C" fn carv_charge_more(area: &mut [u8], id: u64, bytes: u64, out: &m
     report(answer, out)
 }
 
-#[unsafe(no_mangle)]
-pub extern "C" fn carv_uncharge(area: &mut [u8], id: u64, bytes: u64, out: &mut [u64]) -> u64
+pub fn carv_uncharge(area: &mut [u8], id: u64, bytes: u64, out: &mut [u64]) -> u64
     ensures { Exported (on_objects (objects.uncharge id bytes)) area.old out.old result area.new out.new }
 {
     if out.len() != WORDS {
@@ -306,8 +285,7 @@ pub extern "C" fn carv_uncharge(area: &mut [u8], id: u64, bytes: u64, out: &mut 
     report(answer, out)
 }
 
-#[unsafe(no_mangle)]
-pub extern "C" fn carv_remove(area: &mut [u8], id: u64, time: u64, out: &mut [u64]) -> u64
+pub fn carv_remove(area: &mut [u8], id: u64, time: u64, out: &mut [u64]) -> u64
     ensures { Exported (on_objects (objects.remove id time)) area.old out.old result area.new out.new }
 {
     if out.len() != WORDS {
@@ -317,8 +295,7 @@ pub extern "C" fn carv_remove(area: &mut [u8], id: u64, time: u64, out: &mut [u6
     report(answer, out)
 }
 
-#[unsafe(no_mangle)]
-pub extern "C" fn carv_refill(area: &mut [u8], id: u64, time: u64, out: &mut [u64]) -> u64
+pub fn carv_refill(area: &mut [u8], id: u64, time: u64, out: &mut [u64]) -> u64
     ensures { Exported (on_objects (objects.refill id time)) area.old out.old result area.new out.new }
 {
     if out.len() != WORDS {
@@ -328,14 +305,7 @@ pub extern "C" fn carv_refill(area: &mut [u8], id: u64, time: u64, out: &mut [u6
     report(answer, out)
 }
 
-#[unsafe(no_mangle)]
-pub extern "C" fn carv_charge_cpu(
-    area: &mut [u8],
-    id: u64,
-    ns: u64,
-    time: u64,
-    out: &mut [u64],
-) -> u64
+pub fn carv_charge_cpu(area: &mut [u8], id: u64, ns: u64, time: u64, out: &mut [u64]) -> u64
     ensures { Exported (on_objects (objects.charge_cpu id ns time)) area.old out.old result area.new out.new }
 {
     if out.len() != WORDS {
@@ -345,8 +315,7 @@ pub extern "C" fn carv_charge_cpu(
     report(answer, out)
 }
 
-#[unsafe(no_mangle)]
-pub extern "C" fn carv_pays_for_anything(area: &[u8], id: u64, out: &mut [u64]) -> u64
+pub fn carv_pays_for_anything(area: &[u8], id: u64, out: &mut [u64]) -> u64
     ensures { Exported (on_objects (objects.pays_for_anything id)) area.now out.old result area.now out.new }
 {
     if out.len() != WORDS {
@@ -356,8 +325,7 @@ pub extern "C" fn carv_pays_for_anything(area: &[u8], id: u64, out: &mut [u64]) 
     report(answer, out)
 }
 
-#[unsafe(no_mangle)]
-pub extern "C" fn carv_account(area: &[u8], id: u64, out: &mut [u64]) -> u64
+pub fn carv_account(area: &[u8], id: u64, out: &mut [u64]) -> u64
     ensures { Exported (on_objects (objects.read_account id)) area.now out.old result area.now out.new }
 {
     if out.len() != WORDS {
@@ -367,8 +335,7 @@ pub extern "C" fn carv_account(area: &[u8], id: u64, out: &mut [u64]) -> u64
     report(answer, out)
 }
 
-#[unsafe(no_mangle)]
-pub extern "C" fn carv_charge_of(area: &[u8], id: u64, out: &mut [u64]) -> u64
+pub fn carv_charge_of(area: &[u8], id: u64, out: &mut [u64]) -> u64
     ensures { Exported (on_objects (objects.charge_of id)) area.now out.old result area.now out.new }
 {
     if out.len() != WORDS {
@@ -378,8 +345,7 @@ pub extern "C" fn carv_charge_of(area: &[u8], id: u64, out: &mut [u64]) -> u64
     report(answer, out)
 }
 
-#[unsafe(no_mangle)]
-pub extern "C" fn carv_totals(area: &[u8], id: u64, out: &mut [u64]) -> u64
+pub fn carv_totals(area: &[u8], id: u64, out: &mut [u64]) -> u64
     ensures { Exported (on_objects (objects.read_totals id)) area.now out.old result area.now out.new }
 {
     if out.len() != WORDS {
@@ -389,8 +355,7 @@ pub extern "C" fn carv_totals(area: &[u8], id: u64, out: &mut [u64]) -> u64
     report(answer, out)
 }
 
-#[unsafe(no_mangle)]
-pub extern "C" fn carv_start(
+pub fn carv_start(
     area: &mut [u8],
     id: u64,
     space: u64,
@@ -423,13 +388,7 @@ pub extern "C" fn carv_start(
     report(answer, out)
 }
 
-#[unsafe(no_mangle)]
-pub extern "C" fn carv_block_current(
-    area: &mut [u8],
-    kind: u64,
-    number: u64,
-    out: &mut [u64],
-) -> u64
+pub fn carv_block_current(area: &mut [u8], kind: u64, number: u64, out: &mut [u64]) -> u64
     ensures { Exported (block_current kind number) area.old out.old result area.new out.new }
 {
     if out.len() != WORDS {
@@ -439,8 +398,7 @@ pub extern "C" fn carv_block_current(
     report(answer, out)
 }
 
-#[unsafe(no_mangle)]
-pub extern "C" fn carv_wake(
+pub fn carv_wake(
     area: &mut [u8],
     id: u64,
     first: u64,
@@ -462,14 +420,7 @@ pub extern "C" fn carv_wake(
     report(answer, out)
 }
 
-#[unsafe(no_mangle)]
-pub extern "C" fn carv_is_blocked_on(
-    area: &[u8],
-    id: u64,
-    kind: u64,
-    number: u64,
-    out: &mut [u64],
-) -> u64
+pub fn carv_is_blocked_on(area: &[u8], id: u64, kind: u64, number: u64, out: &mut [u64]) -> u64
     ensures { Exported (is_blocked_on id kind number) area.now out.old result area.now out.new }
 {
     if out.len() != WORDS {
@@ -479,8 +430,7 @@ pub extern "C" fn carv_is_blocked_on(
     report(answer, out)
 }
 
-#[unsafe(no_mangle)]
-pub extern "C" fn carv_kill(area: &mut [u8], id: u64, cause: u64, out: &mut [u64]) -> u64
+pub fn carv_kill(area: &mut [u8], id: u64, cause: u64, out: &mut [u64]) -> u64
     ensures { Exported (kill id cause) area.old out.old result area.new out.new }
 {
     if out.len() != WORDS {
@@ -490,8 +440,7 @@ pub extern "C" fn carv_kill(area: &mut [u8], id: u64, cause: u64, out: &mut [u64
     report(answer, out)
 }
 
-#[unsafe(no_mangle)]
-pub extern "C" fn carv_tick(area: &mut [u8], n: u64, out: &mut [u64]) -> u64
+pub fn carv_tick(area: &mut [u8], n: u64, out: &mut [u64]) -> u64
     ensures { Exported (tick n) area.old out.old result area.new out.new }
 {
     if out.len() != WORDS {
@@ -501,8 +450,7 @@ pub extern "C" fn carv_tick(area: &mut [u8], n: u64, out: &mut [u64]) -> u64
     report(answer, out)
 }
 
-#[unsafe(no_mangle)]
-pub extern "C" fn carv_plan(area: &mut [u8], n: u64, out: &mut [u64]) -> u64
+pub fn carv_plan(area: &mut [u8], n: u64, out: &mut [u64]) -> u64
     ensures { Exported (plan n) area.old out.old result area.new out.new }
 {
     if out.len() != WORDS {
@@ -512,8 +460,7 @@ pub extern "C" fn carv_plan(area: &mut [u8], n: u64, out: &mut [u64]) -> u64
     report(answer, out)
 }
 
-#[unsafe(no_mangle)]
-pub extern "C" fn carv_read_thread(area: &[u8], id: u64, out: &mut [u64]) -> u64
+pub fn carv_read_thread(area: &[u8], id: u64, out: &mut [u64]) -> u64
     ensures { Exported (read_thread id) area.now out.old result area.now out.new }
 {
     if out.len() != WORDS {
@@ -523,8 +470,7 @@ pub extern "C" fn carv_read_thread(area: &[u8], id: u64, out: &mut [u64]) -> u64
     report(answer, out)
 }
 
-#[unsafe(no_mangle)]
-pub extern "C" fn carv_current(area: &[u8], out: &mut [u64]) -> u64
+pub fn carv_current(area: &[u8], out: &mut [u64]) -> u64
     ensures { Exported read_current area.now out.old result area.now out.new }
 {
     if out.len() != WORDS {
@@ -534,8 +480,7 @@ pub extern "C" fn carv_current(area: &[u8], out: &mut [u64]) -> u64
     report(answer, out)
 }
 
-#[unsafe(no_mangle)]
-pub extern "C" fn carv_switches(area: &[u8], out: &mut [u64]) -> u64
+pub fn carv_switches(area: &[u8], out: &mut [u64]) -> u64
     ensures { Exported read_switches area.now out.old result area.now out.new }
 {
     if out.len() != WORDS {
@@ -545,8 +490,7 @@ pub extern "C" fn carv_switches(area: &[u8], out: &mut [u64]) -> u64
     report(answer, out)
 }
 
-#[unsafe(no_mangle)]
-pub extern "C" fn carv_exit_of(area: &[u8], id: u64, out: &mut [u64]) -> u64
+pub fn carv_exit_of(area: &[u8], id: u64, out: &mut [u64]) -> u64
     ensures { Exported (exit_of id) area.now out.old result area.now out.new }
 {
     if out.len() != WORDS {

@@ -1,0 +1,16 @@
+-- `carv::carv_create_user_thread` meets its contract. Assumes nothing.
+use borrow.Author.Rules.{rules}
+use Rattle.carv.proofs.Laws.Reporting.{c_created_size, c_created}
+use Rattle.carv.proofs.carv_create_user_thread.Goals as goal
+
+pub returns-then-out-ne-WORDS : goal.returns-then-out-ne-WORDS
+returns-then-out-ne-WORDS c =
+    c_created_size _ _ _ _ c.if-out-ne-WORDS.true
+
+pub report-requires : goal.report-requires
+report-requires c =
+    c.if-out-ne-WORDS.false
+
+pub returns : goal.returns
+returns c =
+    c_created _ _ _ _ c.if-out-ne-WORDS.false _ _ _ c.create_user_thread-answer.ensures _ _ c.report.ensures

@@ -1,0 +1,20 @@
+-- `carv_scheduler::create_budget` meets its contract. Assumes nothing.
+use Rattle.std.proofs.Common.{rules}
+use Rattle.carv_scheduler.specs.Laws.Entry.{entry_refused, entry_sound, entry_served}
+use Rattle.carv_scheduler.specs.Laws.OnRegistry.{registry_serves}
+use Rattle.carv_objects_spec.specs.Registry.{create_budget}
+use mathlib.Core.Path.{ap}
+use mathlib.Core.Bool.{not}
+use Rattle.carv_scheduler.proofs.create_budget.Goals as goal
+
+pub returns-then-not-is_sound : goal.returns-then-not-is_sound
+returns-then-not-is_sound c =
+    entry_refused _ _ _ c.is_sound.ensures (ap not c.if-not-is_sound.true)
+
+pub create_budget-answer-requires : goal.create_budget-answer-requires
+create_budget-answer-requires c =
+    entry_sound _ _ c.is_sound.ensures (ap not c.if-not-is_sound.false)
+
+pub returns : goal.returns
+returns c =
+    entry_served _ _ _ c.is_sound.ensures (ap not c.if-not-is_sound.false) _ _ (registry_serves (create_budget c.args.parent c.args.cpu c.args.memory c.args.time) _ _ _ c.create_budget-answer.ensures)

@@ -1,0 +1,18 @@
+-- `carv_scheduler::created` meets its contract. Assumes nothing.
+use Rattle.std.proofs.Common.{refl, rules}
+use Rattle.carv_scheduler.specs.Laws.Entry.{entry_refused, entry_sound, entry_served}
+use mathlib.Core.Path.{ap}
+use mathlib.Core.Bool.{not}
+use Rattle.carv_scheduler.proofs.created.Goals as goal
+
+pub returns-then-not-is_sound : goal.returns-then-not-is_sound
+returns-then-not-is_sound c =
+    (entry_refused _ _ _ c.is_sound.ensures (ap not c.if-not-is_sound.true), refl)
+
+pub create_user_thread-requires : goal.create_user_thread-requires
+create_user_thread-requires c =
+    entry_sound _ _ c.is_sound.ensures (ap not c.if-not-is_sound.false)
+
+pub returns : goal.returns
+returns c =
+    (entry_served _ _ _ c.is_sound.ensures (ap not c.if-not-is_sound.false) _ _ c.create_user_thread.ensures.0, c.create_user_thread.ensures.1)

@@ -1,0 +1,12 @@
+-- `carv_scheduler::exits::log_exit` meets its contract. Assumes nothing.
+use Rattle.std.proofs.Common.{rules}
+use Rattle.carv_scheduler.specs.Laws.ExitSteps.{logged_room, logged_left}
+use Rattle.carv_scheduler.proofs.exits.log_exit.Goals as goal
+
+pub add_exit-requires : goal.add_exit-requires
+add_exit-requires c =
+    record { well_formed = c.make_room.ensures.formed; a_len_bound = logged_room c.args.a.now _ c.requires c.make_room.ensures }
+
+pub returns : goal.returns
+returns c =
+    logged_left c.args.a.now _ c.requires c.make_room.ensures _ _ c.add_exit.ensures

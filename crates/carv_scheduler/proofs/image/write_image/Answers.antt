@@ -1,0 +1,16 @@
+-- `carv_scheduler::image::write_image` meets its contract. Assumes nothing.
+use Rattle.std.proofs.Common.{rules}
+use Rattle.carv_scheduler.specs.Laws.ImageCall.{image_refused, image_filled}
+use Rattle.carv_scheduler.proofs.image.write_image.Goals as goal
+
+pub returns-then-image-ne-BYTES : goal.returns-then-image-ne-BYTES
+returns-then-image-ne-BYTES c =
+    image_refused c.args.image.now c.if-image-ne-BYTES.true
+
+pub fill_image-requires : goal.fill_image-requires
+fill_image-requires c =
+    c.if-image-ne-BYTES.false
+
+pub returns : goal.returns
+returns c =
+    image_filled c.args.image.now c.if-image-ne-BYTES.false _ c.fill_image.ensures

@@ -1,0 +1,16 @@
+-- `carv_scheduler::planning::choose` meets its contract. Assumes nothing.
+use Rattle.std.proofs.Common.{rules}
+use Rattle.carv_scheduler.specs.Laws.Planning.{chooses_within, chooses_at, chooses_idle}
+use Rattle.carv_scheduler.proofs.planning.choose.Goals as goal
+
+pub queue_pull-id-requires : goal.queue_pull-id-requires
+queue_pull-id-requires c =
+    record { well_formed = c.walk.ensures.area.formed; i_in_bounds = chooses_within _ _ _ _ c.walk.ensures _ _ c.in-At.is }
+
+pub returns-in-At : goal.returns-in-At
+returns-in-At c =
+    chooses_at _ _ _ _ c.walk.ensures _ _ c.in-At.is _ c.queue_pull-id.ensures.0 _ c.queue_pull-id.ensures.1
+
+pub returns-in-Idle : goal.returns-in-Idle
+returns-in-Idle c =
+    chooses_idle _ _ _ _ c.walk.ensures c.in-Idle.is _ c.find_thread-at.ensures

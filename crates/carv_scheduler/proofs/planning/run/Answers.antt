@@ -1,0 +1,18 @@
+-- `carv_scheduler::planning::run` meets its contract. Assumes nothing.
+use Rattle.std.proofs.Common.{rules}
+use Rattle.carv_scheduler.specs.Laws.Places.{found_here, found_gone}
+use Rattle.carv_scheduler.specs.Laws.PlanSteps.{runs_at, runs_gone}
+use Rattle.carv_scheduler.specs.Area.{decode}
+use Rattle.carv_scheduler.proofs.planning.run.Goals as goal
+
+pub set_state-requires : goal.set_state-requires
+set_state-requires c =
+    record { well_formed = c.requires.well_formed; i_in_bounds = (found_here (decode c.args.a.now).threads c.args.id _ c.requires.located _ c.in-At.is).within }
+
+pub returns-in-At : goal.returns-in-At
+returns-in-At c =
+    runs_at c.args.a.now _ _ (found_here (decode c.args.a.now).threads c.args.id _ c.requires.located _ c.in-At.is) _ c.set_state.ensures
+
+pub returns-in-Nothing : goal.returns-in-Nothing
+returns-in-Nothing c =
+    runs_gone _ c.requires.well_formed _ (found_gone (decode c.args.a.now).threads c.args.id _ c.requires.located c.in-Nothing.is)

@@ -1,0 +1,12 @@
+-- `carv_scheduler::planning::switch_to` meets its contract. Assumes nothing.
+use Rattle.std.proofs.Common.{rules}
+use Rattle.carv_scheduler.specs.Laws.PlanSteps.{switches_not, switches_so}
+use Rattle.carv_scheduler.proofs.planning.switch_to.Goals as goal
+
+pub returns-then-id-old : goal.returns-then-id-old
+returns-then-id-old c =
+    switches_so c.args.a.now _ c.args.old c.requires.value _ c.switch_answer-said.ensures _ c.run.ensures c.if-id-old.true c.args.killed c.requires.killed_value _ c.set_current.ensures _ c.leave.ensures
+
+pub returns-else-id-old : goal.returns-else-id-old
+returns-else-id-old c =
+    switches_not c.args.a.now _ c.args.old c.requires.value _ c.switch_answer-said.ensures _ c.run.ensures c.if-id-old.false

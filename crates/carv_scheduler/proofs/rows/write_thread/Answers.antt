@@ -1,0 +1,8 @@
+-- `carv_scheduler::rows::write_thread` meets its contract. Assumes nothing.
+use Rattle.std.proofs.Common.{rules}
+use Rattle.carv_scheduler.specs.Laws.Rows.{thread_set}
+use Rattle.carv_scheduler.proofs.rows.write_thread.Goals as goal
+
+pub returns : goal.returns
+returns c =
+    thread_set _ _ _ _ _ _ _ _ c.write_start.ensures c.write_spaces.ensures c.write_context.ensures c.write_end.ensures

@@ -1,0 +1,19 @@
+-- `carv_scheduler::ticking::tick` meets its contract. Assumes nothing.
+use Rattle.std.proofs.Common.{arith, rules}
+use Rattle.carv_scheduler_spec.specs.Scheduler.{tick}
+use Rattle.carv_scheduler.specs.Laws.Calls.{refused}
+use Rattle.carv_scheduler.specs.Laws.Ticking.{tick_late, ticks}
+use Rattle.carv_scheduler.specs.Area.{decode}
+use Rattle.carv_scheduler.proofs.ticking.tick.Goals as goal
+
+pub returns-then-n-gt-LAST_TICK : goal.returns-then-n-gt-LAST_TICK
+returns-then-n-gt-LAST_TICK c =
+    refused (tick c.args.n) c.args.a.now c.requires 3 (tick_late c.args.n (decode c.args.a.now) c.if-n-gt-LAST_TICK.true)
+
+pub wake_sleepers-requires : goal.wake_sleepers-requires
+wake_sleepers-requires c =
+    c.account.ensures.sound
+
+pub returns : goal.returns
+returns c =
+    ticks c.args.n c.args.a.now c.requires (omega (arith, c.if-n-gt-LAST_TICK.false)) _ _ c.account.ensures c.wake_sleepers.ensures
