@@ -20,7 +20,7 @@ use Rattle.carv_scheduler.specs.Image.{Filled}
 use Rattle.carv.specs.C.{reported, Opens, has_image, Made, Ensures, lent}
 use Rattle.carv_scheduler_spec.specs.Book as book
 use Rattle.carv_scheduler_spec.specs.Book.{Book, on_objects, plan}
-use Rattle.carv_scheduler_spec.specs.Runs.{run, after, Numbered, write_all, Fits}
+use Rattle.carv_scheduler_spec.specs.Runs.{run, Numbered, write_all, Fits}
 use Rattle.carv_scheduler_spec.specs.Rust as rust
 use Rattle.carv_scheduler_spec.specs.Panics.{NoPanics}
 use Rattle.carv_scheduler_spec.specs.Demand1.{renewal_left}

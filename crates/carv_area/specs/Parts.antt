@@ -1,5 +1,5 @@
 -- The n elements of a list from place f on, and the list with others in their place: what a call that is lent `&mut a[f..f + n]` sees and leaves. Assumes nothing.
-use Rattle.std.specs.Prelude.{ℕ, ◌+◌, List, ◌++◌, take, drop}
+use Rattle.std.specs.Prelude.{ℕ, List, ◌++◌, take, drop}
 
 -- the n elements from place f on
 abbrev pub part : ℕ → ℕ → List ℕ → List ℕ

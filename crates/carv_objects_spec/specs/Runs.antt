@@ -1,5 +1,5 @@
 -- Lists of calls on a registry: what each replies and leaves, the book that is written from the calls and their refusal numbers alone, and an account's line. Assumes nothing.
-use Rattle.std.specs.Prelude.{List, [], ◌∷◌, ℕ, ◌-◌}
+use Rattle.std.specs.Prelude.{List, [], ◌∷◌, ℕ}
 use Rattle.carv_budget.specs.declared.Account.{Account}
 use Rattle.carv_objects_spec.specs.Registry as registry
 use Rattle.carv_objects_spec.specs.Registry.{Registry, RegistryReply}

@@ -1,7 +1,7 @@
 -- Demand 3 as it is said of the definitions: for every list of calls on one board from an accepted opening, each live budget's line is the book's four figures; two lists leave a
 -- budget equal lines exactly when these agree; each accepted planning runs the thread ready longest among those with time left. P1's totals are those of the book's figures.
 -- Assumes nothing.
-use Rattle.std.specs.Prelude.{◌≡◌, Bool, true, false, List, ◌∷◌, ◌++◌, ℕ, ◌-◌, ◌*◌, ◌≤◌}
+use Rattle.std.specs.Prelude.{◌≡◌, Bool, true, false, List, ◌∷◌, ◌++◌, ℕ, ◌*◌, ◌≤◌}
 use Rattle.std.proofs.Math.Option.{some}
 use Rattle.carv_budget.specs.Account.{period}
 use Rattle.carv_objects_spec.specs.Registry.{is_budget, account_of}

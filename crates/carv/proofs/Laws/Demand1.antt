@@ -6,12 +6,12 @@ use Rattle.carv_budget.specs.Account.{period}
 use Rattle.carv_budget.proofs.Laws.Account.{first, second}
 use Rattle.carv_scheduler.specs.declared.Answer.{Answer}
 use Rattle.carv_scheduler.specs.declared.Answer.TheVariants.{Refused, Done, Registry, NoSwitch, Switch, SwitchToKernel, Ended, EndedNothing, Blocked, NotBlocked, Record, Word, Cause, NoCause}
-use Rattle.carv_scheduler.specs.Answer.{number, value}
+use Rattle.carv_scheduler.specs.Answer.{number}
 use Rattle.carv_scheduler_spec.specs.Scheduler.{Board, opening}
 use Rattle.carv_scheduler.specs.Area.{decode, sound_area, Is, Answered}
 use Rattle.carv.specs.C.{registry_reported, reported, Exported, ExportedWithImage, Opens, has_image, Made, Ensures, with_image, plain, lent}
 use Rattle.carv_scheduler_spec.specs.Book.{Call}
-use Rattle.carv_scheduler_spec.specs.Runs.{run, after}
+use Rattle.carv_scheduler_spec.specs.Runs.{run}
 use Rattle.carv.specs.Demands.{GivenAs, NothingChanged, Bytes, NothingWritten, OfCall, OfOpening, OfImage, OfQuestion1, Demand1}
 use Rattle.std.proofs.Math.Option.{Option, none, some}
 use Rattle.carv_objects.specs.declared.Answer as registry_answers

@@ -11,7 +11,7 @@ use Rattle.carv_scheduler.specs.Area.{decode, sound_area, Is}
 use Rattle.carv_scheduler.specs.Laws.AreaLaws.{area_sound}
 use Rattle.carv.specs.C.{Made, Ensures, lent}
 use Rattle.carv_scheduler_spec.specs.Book.{Call, on_objects, create_user_thread, start, block_current, wake, is_blocked_on, kill, tick, plan, read_thread, read_current, read_switches, exit_of}
-use Rattle.carv_scheduler_spec.specs.Runs.{run, after, AllFit}
+use Rattle.carv_scheduler_spec.specs.Runs.{run, AllFit}
 use Rattle.carv_scheduler_spec.proofs.Laws.Demand2 as definitions
 use Rattle.carv_scheduler_spec.specs.Demand2 as on_definitions
 use Rattle.carv_scheduler_spec.proofs.Laws.Panics.{opening_no_panics}

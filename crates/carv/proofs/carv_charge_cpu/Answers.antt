@@ -1,5 +1,4 @@
 -- `carv::carv_charge_cpu` meets its contract. Assumes nothing.
-use borrow.Author.Rules.{rules}
 use Rattle.carv.proofs.Laws.Reporting.{returned_one, returned}
 use Rattle.carv.proofs.carv_charge_cpu.Goals as goal
 

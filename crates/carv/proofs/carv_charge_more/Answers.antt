@@ -1,5 +1,4 @@
 -- `carv::carv_charge_more` meets its contract. Assumes nothing.
-use borrow.Author.Rules.{rules}
 use Rattle.carv.proofs.Laws.Reporting.{returned_one, returned}
 use Rattle.carv.proofs.carv_charge_more.Goals as goal
 

@@ -1,5 +1,4 @@
 -- `carv::carv_create_user_thread` meets its contract. Assumes nothing.
-use borrow.Author.Rules.{rules}
 use Rattle.carv.proofs.Laws.Reporting.{c_created_size, c_created}
 use Rattle.carv.proofs.carv_create_user_thread.Goals as goal
 

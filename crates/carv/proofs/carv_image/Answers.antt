@@ -1,5 +1,4 @@
 -- `carv::carv_image` meets its contract. Assumes nothing.
-use borrow.Author.Rules.{rules}
 use Rattle.carv.proofs.carv_image.Goals as goal
 
 pub returns : goal.returns

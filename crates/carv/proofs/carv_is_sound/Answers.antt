@@ -1,5 +1,4 @@
 -- `carv::carv_is_sound` meets its contract. Assumes nothing.
-use borrow.Author.Rules.{rules}
 use Rattle.carv.proofs.carv_is_sound.Goals as goal
 
 pub returns : goal.returns

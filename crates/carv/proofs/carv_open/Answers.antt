@@ -1,5 +1,4 @@
 -- `carv::carv_open` meets its contract. Assumes nothing.
-use borrow.Author.Rules.{rules}
 use Rattle.carv.proofs.Laws.Reporting.{returned_one, returned}
 use Rattle.carv.proofs.carv_open.Goals as goal
 

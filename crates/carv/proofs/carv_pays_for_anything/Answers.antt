@@ -1,5 +1,4 @@
 -- `carv::carv_pays_for_anything` meets its contract. Assumes nothing.
-use borrow.Author.Rules.{rules}
 use Rattle.carv.proofs.Laws.Reporting.{returned_one, returned}
 use Rattle.carv.proofs.carv_pays_for_anything.Goals as goal
 

@@ -1,5 +1,4 @@
 -- `carv::carv_totals` meets its contract. Assumes nothing.
-use borrow.Author.Rules.{rules}
 use Rattle.carv.proofs.Laws.Reporting.{returned_one, returned}
 use Rattle.carv.proofs.carv_totals.Goals as goal
 

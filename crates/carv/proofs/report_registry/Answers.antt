@@ -1,5 +1,4 @@
 -- `carv::report_registry` meets its contract. Assumes nothing.
-use borrow.Author.Rules.{rules}
 use mathlib.Core.Path.{refl}
 use Rattle.carv.proofs.Laws.Reporting.{registry_reported_as}
 use Rattle.carv.proofs.report_registry.Goals as goal

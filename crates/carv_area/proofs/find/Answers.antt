@@ -3,7 +3,6 @@ use native.Mathlib.Omega.{arith}
 use mathlib.Core.Path.{◌∙◌, sym}
 use Rattle.carv_area.specs.Laws.Keys.{find_there}
 use Rattle.carv_area.specs.Laws.Search.{absent}
-use borrow.Author.Rules.{rules}
 use Rattle.carv_area.proofs.find.Goals as goal
 
 pub returns-then-x-id : goal.returns-then-x-id

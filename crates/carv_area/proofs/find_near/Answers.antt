@@ -2,7 +2,6 @@
 use native.Mathlib.Omega.{arith}
 use mathlib.Core.Path.{◌∙◌, sym}
 use Rattle.carv_area.specs.Laws.Keys.{find_there}
-use borrow.Author.Rules.{rules}
 use Rattle.carv_area.proofs.find_near.Goals as goal
 
 pub returns-then-x-id : goal.returns-then-x-id

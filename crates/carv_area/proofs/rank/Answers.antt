@@ -2,7 +2,6 @@
 use native.Mathlib.Omega.{arith}
 use mathlib.Core.Path.{◌∙◌, sym}
 use Rattle.carv_area.specs.Laws.Search.{rank_none, rank_first, rank_last, window, window_some}
-use borrow.Author.Rules.{rules}
 use Rattle.carv_area.proofs.rank.Goals as goal
 
 pub returns-then-n-eq0 : goal.returns-then-n-eq0

@@ -1,5 +1,4 @@
 -- `carv_objects::totals` meets its contract. Assumes nothing.
-use borrow.Author.Rules.{rules}
 use Rattle.carv_objects.specs.Laws.Entry.{entry_refused, entry_sound, entry_served}
 use mathlib.Core.Path.{ap}
 use mathlib.Core.Bool.{not}

@@ -3,7 +3,7 @@ use Rattle.std.specs.Prelude.{◌≡◌, refl, List, ℕ, ◌+◌, ◌-◌}
 use Rattle.std.proofs.Common.{sym, ◌∙◌, ap, arith}
 use Rattle.carv_area.specs.Table.{Row, alter}
 use Rattle.carv_area.specs.Laws.Table.{at_alter_same, alter_alter, alter_id, alter_swap}
-use Rattle.carv_objects_spec.specs.Book.{Book, Object, Budget, Figures, memory_used, figures, or_no_object, or_no_budget, object_of, budget_of, with_memory, charge, credit, on_budget, on_charge, charge_more, uncharge, accepted}
+use Rattle.carv_objects_spec.specs.Book.{Book, Object, Budget, Figures, figures, or_no_object, or_no_budget, object_of, budget_of, with_memory, charge, credit, on_budget, on_charge, charge_more, uncharge, accepted}
 
 -- both calls write this: the charge of object i goes by g, and its payer's budget p by f
 abbrev noted : Book → (i p : ℕ) → (Budget → Budget) → (ℕ → ℕ) → Book

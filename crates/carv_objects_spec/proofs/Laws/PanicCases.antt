@@ -1,6 +1,6 @@
 -- What can panic, written out: the whole list of checks of each call on a small registry, where the call goes through and where it stops, and what becomes of the
 -- counter of budgets. Assumes nothing.
-use Rattle.std.specs.Prelude.{◌≡◌, refl, true, false, [], ◌∷◌, ◌+◌, ◌-◌, ◌^◌, ◌<◌}
+use Rattle.std.specs.Prelude.{◌≡◌, refl, true, false, [], ◌∷◌, ◌+◌, ◌^◌, ◌<◌}
 use Rattle.std.proofs.Common.{arith}
 use Rattle.carv_budget.specs.Account as account
 use Rattle.carv_budget.specs.Rust as budget_rust

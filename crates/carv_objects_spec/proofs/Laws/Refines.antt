@@ -13,7 +13,7 @@ use Rattle.carv_budget.specs.Rust as budget
 use Rattle.carv_budget.proofs.Laws.Account.{renewal, renew_not_due, returnable_renewed}
 use Rattle.carv_budget.proofs.Laws.Refines.{refill_renews, charge_memory_by, release_memory_by, charge_cpu_by, carve_out_by, release_child_by, renew_charged}
 use Rattle.carv_objects_spec.specs.declared.Entry.{Entry}
-use Rattle.carv_objects_spec.specs.Reply.{refuse, accept, without_answer, Value, id, pays, of_account, charge}
+use Rattle.carv_objects_spec.specs.Reply.{refuse, accept, without_answer, Value, pays, of_account, charge}
 use Rattle.carv_objects_spec.specs.Registry as r01
 use Rattle.carv_objects_spec.specs.Totals.{read_totals}
 use Rattle.carv_objects_spec.specs.Registry.{Registry, RegistryReply, or_missing, entry, is_budget, account_of, payer_of, on_account, object, drop, add, plain, carved, bytes_of, listed, needs_backing, has_place, has_next}

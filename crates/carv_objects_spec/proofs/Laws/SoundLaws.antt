@@ -3,7 +3,7 @@ use Rattle.std.specs.Prelude.{◌≡◌, refl, Bool, true, false, cond, ◌&&◌
 use Rattle.std.proofs.lemmas.Bool.{false≢true, eqb-false}
 use Rattle.std.proofs.Common.{eqb-true, eq-eqb, ne_eqb, leb-true, le-leb, ltb-true, lt-ltb}
 use Rattle.carv_area.specs.Laws.Table
-use Rattle.carv_area.specs.Table.{Row, at, total, Rising}
+use Rattle.carv_area.specs.Table.{Row, total, Rising}
 use Rattle.carv_area.specs.Laws.Table.{All, test}
 use Rattle.carv_budget.specs.declared.Account.{Account}
 use Rattle.carv_budget.specs.Account as account

@@ -1,5 +1,4 @@
 -- `carv_register_image::step` meets its contract. Assumes nothing.
-use borrow.Author.Rules.{rules}
 use mathlib.Core.Path.{◌∙◌}
 use Rattle.carv_register_image.proofs.Laws.Image.{step_is}
 use Rattle.carv_register_image.proofs.step.Goals as goal

@@ -1,11 +1,9 @@
 -- `carv_register_image::steps` meets its contract. The loop's invariant is document 02's sentence: after step k the first 8k bytes are final and the others as lent. The
 -- measure is the number of steps left. Assumes nothing.
-use Prim.Native.Nat.{◌+◌, ◌-◌, ◌≤◌}
+use Prim.Native.Nat.{◌+◌, ◌-◌}
 use native.Mathlib.Omega.{arith}
 use mathlib.Core.Path.{◌≡◌, sym, ◌∙◌}
-use lib.ListN.{length}
 use borrow.Author.Rules.{rules}
-use Rattle.carv_register_image.specs.Image.{after_step}
 use Rattle.carv_register_image.proofs.Laws.Image.{after_none, so_far, one_more}
 use Rattle.carv_register_image.proofs.steps.Goals as goal
 

@@ -1,5 +1,4 @@
 -- `carv_scheduler::create_user_thread` meets its contract. Assumes nothing.
-use Rattle.std.proofs.Common.{rules}
 use Rattle.carv_scheduler.specs.Laws.Creation.{created_size, created_filled, created_refused}
 use Rattle.carv_scheduler.proofs.create_user_thread.Goals as goal
 

@@ -1,5 +1,5 @@
 -- `carv_scheduler::created` meets its contract. Assumes nothing.
-use Rattle.std.proofs.Common.{refl, rules}
+use Rattle.std.proofs.Common.{refl}
 use Rattle.carv_scheduler.specs.Laws.Entry.{entry_refused, entry_sound, entry_served}
 use mathlib.Core.Path.{ap}
 use mathlib.Core.Bool.{not}

@@ -1,5 +1,4 @@
 -- `carv_scheduler::current` meets its contract. Assumes nothing.
-use Rattle.std.proofs.Common.{rules}
 use Rattle.carv_scheduler.specs.Laws.Entry.{entry_refused, entry_sound, entry_served}
 use mathlib.Core.Path.{ap}
 use mathlib.Core.Bool.{not}

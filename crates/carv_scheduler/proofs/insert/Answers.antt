@@ -1,5 +1,4 @@
 -- `carv_scheduler::insert` meets its contract. Assumes nothing.
-use Rattle.std.proofs.Common.{rules}
 use Rattle.carv_scheduler.specs.Laws.Entry.{entry_refused, entry_sound, entry_served}
 use Rattle.carv_scheduler.specs.Laws.OnRegistry.{registry_serves}
 use Rattle.carv_objects_spec.specs.Registry.{insert}

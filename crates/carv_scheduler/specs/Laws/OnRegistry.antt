@@ -12,7 +12,6 @@ use Rattle.carv_objects.specs.Area as registry_area
 use Rattle.carv_objects.specs.Laws.Calls as registry_calls
 use Rattle.carv_scheduler.specs.declared.Answer.TheVariants as answer
 use Rattle.carv_scheduler_spec.specs.Scheduler.{with_registry, by_registry, lift_value}
-use Rattle.carv_scheduler_spec.proofs.Laws.SoundFacts.{Sound}
 use Rattle.carv_scheduler_spec.proofs.Laws.Steps.{registry_kept}
 use Rattle.carv_scheduler.specs.Area.{registry_part, decode, sound_area, Is, Serves}
 use Rattle.carv_scheduler.specs.Laws.Formed.{registry_written}

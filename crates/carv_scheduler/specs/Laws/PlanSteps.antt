@@ -11,7 +11,6 @@ use Rattle.carv_scheduler_spec.specs.declared.Thread.{Thread}
 use Rattle.carv_scheduler.specs.declared.Answer.{Answer}
 use Rattle.carv_scheduler.specs.declared.Answer.TheVariants.{NoSwitch, Switch, SwitchToKernel, Refused}
 use Rattle.carv_scheduler.specs.declared.planning.Chosen.{Chosen}
-use Rattle.carv_scheduler.specs.Answer.{number, value}
 use Rattle.carv_scheduler_spec.specs.Scheduler.{Board, Choice, switch, idle, tick_ns, ready, running, dead, is, no_wait, thread, become, root_of, put_back, switch_to, switch_value, plan}
 use Rattle.carv_scheduler.specs.Area.{decode, sound_area, Serves}
 use Rattle.carv_scheduler.specs.Laws.Rows.{no_row}

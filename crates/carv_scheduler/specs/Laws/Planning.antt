@@ -2,7 +2,7 @@
 use Rattle.std.specs.Prelude.{◌≡◌, ℕ, ◌+◌, ◌<◌, ◌≤◌, Bool, true, false, cond, ◌&&◌, List, length, ◌≢◌, nat_lt, slice_index, slice_index_or, refl}
 use Rattle.std.proofs.Common.{arith, sym, ap, ◌∙◌, subst, eq-eqb, ne_eqb, lt-ltb, le-ltb}
 use Rattle.std.proofs.Math.Option.{some}
-use Rattle.carv_area.specs.Table.{Row, at, alter, erase}
+use Rattle.carv_area.specs.Table.{Row, alter, erase}
 use Rattle.carv_area.specs.Rows.{remove_at}
 use Rattle.carv_area.specs.Parts.{put_part}
 use Rattle.carv_area.specs.Lookup.{Located, Here, Gone}

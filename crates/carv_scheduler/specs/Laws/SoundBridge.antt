@@ -17,7 +17,7 @@ use Rattle.carv_objects.specs.Laws.Calls as registry_calls
 use Rattle.carv_objects.specs.Laws.SoundWalk.{Tells}
 use Rattle.carv_scheduler_spec.specs.Scheduler.{Board, cause_listed}
 use Rattle.carv_scheduler_spec.specs.Sound.{each, thread_tests, board_tests, sound}
-use Rattle.carv_scheduler.specs.Area.{registry_part, head, threads_part, queue_part, exits_part, thread_at, threads_in, exit_at, exits_in, decode, sound_area}
+use Rattle.carv_scheduler.specs.Area.{registry_part, head, threads_part, queue_part, exits_part, thread_at, threads_in, exit_at, exits_in, sound_area}
 use Rattle.carv_scheduler.specs.Laws.AreaLaws.{asked_told, asked_shown}
 use Rattle.carv_scheduler.specs.Laws.SoundWalk.{SoundThreads, SoundTables, SoundExits, SoundParts}
 use Rattle.carv_scheduler.specs.Laws.SoundThread.{tests_told, tests_shown}

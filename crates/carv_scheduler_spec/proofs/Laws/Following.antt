@@ -30,7 +30,7 @@ use Rattle.carv_scheduler_spec.proofs.Laws.Steps.{renew_for_kept}
 use Rattle.carv_scheduler_spec.proofs.Laws.Switching.{choose_state, choose_there, put_back_kept, switched, switched_runs, switched_has, switched_budget, switched_wait}
 use Rattle.carv_scheduler_spec.specs.Book as book
 use Rattle.carv_scheduler_spec.specs.Book.{Book, Call, on_objects, create_user_thread, start, block_current, wake, kill, tick, plan, write}
-use Rattle.carv_scheduler_spec.specs.Runs.{run, after}
+use Rattle.carv_scheduler_spec.specs.Runs.{run}
 
 -- Board and book.
 

@@ -1,15 +1,14 @@
 -- The board's calls question by question: what each replies where the first question that is missed is this one, and where none is. Assumes nothing.
-use Rattle.std.specs.Prelude.{◌≡◌, refl, Bool, true, false, cond, ◌&&◌, List, ℕ, ◌*◌, ◌≤◌, ◌<◌, eqb, length}
+use Rattle.std.specs.Prelude.{◌≡◌, refl, Bool, true, false, ◌&&◌, ℕ, ◌*◌, ◌≤◌, ◌<◌, eqb, length}
 use Rattle.std.proofs.Math.Option.{none, some}
 use Rattle.std.proofs.Common.{eq-eqb, ne_eqb, lt-ltb, le-ltb, le-leb}
 use Rattle.std.proofs.lemmas.Bool.{lt-leb}
-use Rattle.carv_area.specs.Table.{Row, alter, erase, put, pick}
+use Rattle.carv_area.specs.Table.{alter, put, pick}
 use Rattle.carv_objects_spec.specs.Reply.{refuse, accept}
 use Rattle.carv_scheduler_spec.specs.declared.Context.{Context}
 use Rattle.carv_scheduler_spec.specs.declared.Results.{Results}
-use Rattle.carv_scheduler_spec.specs.declared.Thread.{Thread}
 use Rattle.carv_scheduler_spec.specs.Killed.{killed}
-use Rattle.carv_scheduler_spec.specs.Scheduler.{Board, idle, inactive, running, blocked, is, wait, wait_listed, budget_id, in_spaces, fresh, thread, has, become, started, with_threads, join, is_blocked, record_of, create_user_thread, start, block_current, is_blocked_on, read_thread, dead, no_wait, wait_of, ended, without, logged, cause_listed, kill, woken, wake, ticked, is_due, with_registry, charge_tick, wake_all, tick, Choice, put_back, choose, switch_to, switch_value, plan, word, read_current, read_switches, exit_cause, exit_in, exit_of}
+use Rattle.carv_scheduler_spec.specs.Scheduler.{Board, idle, inactive, running, blocked, is, wait, wait_listed, budget_id, in_spaces, fresh, thread, has, become, started, with_threads, join, is_blocked, record_of, create_user_thread, start, block_current, is_blocked_on, read_thread, wait_of, ended, without, logged, cause_listed, kill, woken, wake, ticked, is_due, with_registry, charge_tick, wake_all, tick, Choice, put_back, choose, switch_to, switch_value, plan, word, read_current, read_switches, exit_cause, exit_in, exit_of}
 
 module _ (i budget : ℕ) (stack : Bool) (b : Board) where
   pub create_known : has b.threads i ≡ true → create_user_thread i budget stack b ≡ refuse 5 b

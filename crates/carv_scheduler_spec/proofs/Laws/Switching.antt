@@ -3,7 +3,7 @@ use Rattle.std.specs.Prelude.{◌≡◌, refl, Bool, true, false, cond, not, ◌
 use Rattle.std.proofs.Common.{sym, subst, ◌∙◌, true≢false, arith, eqb-true, eq-eqb, ne_eqb}
 use Rattle.std.proofs.lemmas.Bool.{false≢true, eqb-false, not-true}
 use Rattle.carv_area.specs.Laws.Table
-use Rattle.carv_area.specs.Table.{Row, at, alter, erase, Rising}
+use Rattle.carv_area.specs.Table.{Row, alter, erase, Rising}
 use Rattle.carv_area.specs.Laws.Table.{test}
 use Rattle.carv_budget.proofs.Laws.Account.{first, second}
 use Rattle.carv_objects_spec.specs.Registry.{Registry}

@@ -1,6 +1,6 @@
 -- Document 01's soundness of a board, both ways: a sound board and, for each test of specs/Sound.antt in its order, neighbours that fail it. A neighbour differs in one
 -- place, or in as many as it takes for no other test to fail. carv_objects_spec/proofs/Laws/Unsound.antt is the same for the registry. Assumes nothing.
-use Rattle.std.specs.Prelude.{◌≡◌, refl, true, false, List, [], ◌∷◌, ◌++◌, ℕ, zero, suc, ◌+◌, length}
+use Rattle.std.specs.Prelude.{◌≡◌, refl, true, false, List, [], ◌∷◌, ◌++◌, ℕ, zero, suc, length}
 use Rattle.carv_area.specs.Table.{Row}
 use Rattle.carv_budget.specs.Account as account
 use Rattle.carv_objects_spec.specs.Registry as registry

@@ -1,5 +1,4 @@
 -- `carv_objects::accounts::booking` meets its contract. Assumes nothing.
-use borrow.Author.Rules.{rules}
 use mathlib.Core.Path.{refl, sym, ◌∙◌}
 use Rattle.carv_objects.proofs.accounts.booking.Goals as goal
 

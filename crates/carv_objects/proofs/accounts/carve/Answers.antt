@@ -1,5 +1,4 @@
 -- `carv_objects::accounts::carve` meets its contract. Assumes nothing.
-use borrow.Author.Rules.{rules}
 use Rattle.carv_objects.specs.Laws.Booked.{carves_yes, carves_no}
 use Rattle.carv_objects.proofs.accounts.carve.Goals as goal
 

@@ -1,5 +1,4 @@
 -- `carv_objects::accounts::charge` meets its contract. Assumes nothing.
-use borrow.Author.Rules.{rules}
 use Rattle.carv_objects.specs.Laws.Booked.{charge_books}
 use Rattle.carv_objects.proofs.accounts.charge.Goals as goal
 

@@ -1,5 +1,4 @@
 -- `carv_objects::accounts::credit` meets its contract. Assumes nothing.
-use borrow.Author.Rules.{rules}
 use Rattle.carv_objects.specs.Laws.Booked.{credit_is}
 use Rattle.carv_objects.proofs.accounts.credit.Goals as goal
 

@@ -1,5 +1,4 @@
 -- `carv_objects::accounts::give_back` meets its contract. Assumes nothing.
-use borrow.Author.Rules.{rules}
 use Rattle.carv_objects.specs.Laws.Booked.{return_is}
 use Rattle.carv_objects.proofs.accounts.give_back.Goals as goal
 

@@ -1,5 +1,4 @@
 -- `carv_objects::accounts::opened` meets its contract. Assumes nothing.
-use borrow.Author.Rules.{rules}
 use Rattle.carv_objects.specs.Laws.Booked.{open_books}
 use Rattle.carv_objects.proofs.accounts.opened.Goals as goal
 

@@ -1,5 +1,4 @@
 -- `carv_objects::accounts::renew` meets its contract. Assumes nothing.
-use borrow.Author.Rules.{rules}
 use Rattle.carv_objects.specs.Laws.Booked.{renew_is}
 use Rattle.carv_objects.proofs.accounts.renew.Goals as goal
 

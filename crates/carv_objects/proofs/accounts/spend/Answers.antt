@@ -1,5 +1,4 @@
 -- `carv_objects::accounts::spend` meets its contract. Assumes nothing.
-use borrow.Author.Rules.{rules}
 use Rattle.carv_objects.specs.Laws.Booked.{spend_books}
 use Rattle.carv_objects.proofs.accounts.spend.Goals as goal
 

@@ -1,5 +1,4 @@
 -- `carv_objects::accounts::spend_most` meets its contract. Assumes nothing.
-use borrow.Author.Rules.{rules}
 use Rattle.carv_objects.specs.Laws.Cpu.{spends_most}
 use Rattle.carv_objects.proofs.accounts.spend_most.Goals as goal
 

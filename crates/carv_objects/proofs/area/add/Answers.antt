@@ -1,5 +1,4 @@
 -- `carv_objects::area::add` meets its contract. Assumes nothing.
-use borrow.Author.Rules.{rules}
 use native.Mathlib.Omega.{arith}
 use Rattle.carv_objects.specs.Laws.Formed.{leaves_as}
 use Rattle.carv_objects.specs.Laws.AreaSteps.{next_set, room_next, room_place, add_raised, add_place, add_rising, add_same}

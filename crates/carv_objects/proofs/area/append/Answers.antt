@@ -1,5 +1,4 @@
 -- `carv_objects::area::append` meets its contract. Assumes nothing.
-use borrow.Author.Rules.{rules}
 use native.Mathlib.Omega.{arith}
 use mathlib.Core.Path.{◌∙◌}
 use Rattle.carv_objects.specs.Area.{table}

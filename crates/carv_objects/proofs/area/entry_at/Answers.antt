@@ -1,5 +1,4 @@
 -- `carv_objects::area::entry_at` meets its contract. Assumes nothing.
-use borrow.Author.Rules.{rules}
 use Rattle.carv_objects.specs.Area.{table}
 use Rattle.carv_objects.specs.Laws.AreaSteps.{entry_room, entry_is}
 use Rattle.carv_objects.proofs.area.entry_at.Goals as goal

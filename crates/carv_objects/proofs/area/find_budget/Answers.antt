@@ -1,5 +1,4 @@
 -- `carv_objects::area::find_budget` meets its contract. Assumes nothing.
-use borrow.Author.Rules.{rules}
 use Rattle.carv_objects.specs.Laws.AreaSteps.{located_here, located_gone, gone_budget, here_other, here_budget}
 use Rattle.carv_objects.specs.Area.{decode}
 use Rattle.carv_objects.proofs.area.find_budget.Goals as goal

@@ -1,5 +1,4 @@
 -- `carv_objects::area::find_near` meets its contract. Assumes nothing.
-use borrow.Author.Rules.{rules}
 use Rattle.carv_objects.specs.Area.{table}
 use Rattle.carv_objects.specs.Laws.AreaSteps.{table_keyed, found_is}
 use Rattle.carv_objects.proofs.area.find_near.Goals as goal

@@ -1,5 +1,4 @@
 -- `carv_objects::area::has_room` meets its contract. Assumes nothing.
-use borrow.Author.Rules.{rules}
 use native.Mathlib.Omega.{arith}
 use Rattle.carv_objects.specs.Laws.AreaSteps.{room_full, room_last, room_there}
 use Rattle.carv_objects.specs.Area.{decode}

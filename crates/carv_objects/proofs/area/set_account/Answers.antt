@@ -1,5 +1,4 @@
 -- `carv_objects::area::set_account` meets its contract. Assumes nothing.
-use borrow.Author.Rules.{rules}
 use Rattle.carv_objects.specs.Laws.Formed.{leaves_as}
 use Rattle.carv_objects.specs.Laws.AreaSteps.{account_set}
 use Rattle.carv_objects.proofs.area.set_account.Goals as goal

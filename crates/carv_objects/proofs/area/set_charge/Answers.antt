@@ -1,5 +1,4 @@
 -- `carv_objects::area::set_charge` meets its contract. Assumes nothing.
-use borrow.Author.Rules.{rules}
 use Rattle.carv_objects.specs.Laws.Formed.{leaves_as}
 use Rattle.carv_objects.specs.Laws.AreaSteps.{charge_set}
 use Rattle.carv_objects.proofs.area.set_charge.Goals as goal

@@ -1,5 +1,4 @@
 -- `carv_objects::area::set_next` meets its contract. Assumes nothing.
-use borrow.Author.Rules.{rules}
 use mathlib.Core.Path.{◌∙◌}
 use Rattle.carv_objects.specs.Area.{head}
 use Rattle.carv_objects.specs.Laws.Formed.{length_head}

@@ -1,5 +1,4 @@
 -- `carv_objects::calls::account` meets its contract. Assumes nothing.
-use borrow.Author.Rules.{rules}
 use mathlib.Core.Path.{refl, sym, ap, ◌∙◌}
 use mathlib.Core.Option.{some}
 use Rattle.carv_budget.specs.declared.Account.{Account}

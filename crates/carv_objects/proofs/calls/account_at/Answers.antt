@@ -1,5 +1,4 @@
 -- `carv_objects::calls::account_at` meets its contract. Assumes nothing.
-use borrow.Author.Rules.{rules}
 use mathlib.Core.Path.{ap}
 use Rattle.carv_objects_spec.specs.declared.Entry.{Entry}
 use Rattle.carv_objects.proofs.calls.account_at.Goals as goal

@@ -1,5 +1,4 @@
 -- `carv_objects::calls::charge_more` meets its contract. Assumes nothing.
-use borrow.Author.Rules.{rules}
 use Rattle.carv_objects.specs.Laws.AreaSteps.{located_here, located_gone, gone_has}
 use Rattle.carv_objects.specs.Laws.Calls.{area_sound, area_formed, refused, booked_yes, booked_no}
 use Rattle.carv_objects_spec.proofs.Laws.Questions.{charge_more_missing}

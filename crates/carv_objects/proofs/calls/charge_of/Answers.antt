@@ -1,5 +1,4 @@
 -- `carv_objects::calls::charge_of` meets its contract. Assumes nothing.
-use borrow.Author.Rules.{rules}
 use mathlib.Core.Path.{refl, sym, ap, ◌∙◌}
 use mathlib.Core.Option.{some}
 use Rattle.carv_objects_spec.specs.declared.Entry.{Entry}

@@ -1,11 +1,8 @@
 -- `carv_objects::calls::create` meets its contract. Assumes nothing.
-use borrow.Author.Rules.{rules}
-use mathlib.Core.Path.{ap, sym, ◌∙◌, subst}
-use mathlib.Core.Bool.{Bool, true, false, not, ◌||◌}
-use Prim.Native.Nat.{ℕ}
+use mathlib.Core.Path.{ap}
+use mathlib.Core.Bool.{not}
 use Rattle.carv_objects.proofs.Rules.{said_not, said_so}
 use Rattle.carv_objects.specs.Laws.Formed.{leaves_as}
-use Rattle.carv_objects.specs.declared.Answer.{Answer}
 use Rattle.carv_objects.specs.Answer.{number, value}
 use Rattle.carv_objects.specs.Laws.Kinds.{named_listed, named_unlisted, listed_code, bytes_named, creatable_named, backing_named}
 use Rattle.carv_objects.specs.Laws.AreaSteps.{budget_here, budget_gone}

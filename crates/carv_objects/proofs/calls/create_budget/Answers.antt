@@ -1,11 +1,7 @@
 -- `carv_objects::calls::create_budget` meets its contract. Assumes nothing.
-use borrow.Author.Rules.{rules}
-use mathlib.Core.Path.{ap, sym}
-use Rattle.carv_budget.proofs.Laws.Account.{charge_sound}
-use borrow.Author.Tests.{leb-true}
+use mathlib.Core.Path.{ap}
 use Rattle.carv_objects.proofs.Rules.{said_not, said_so}
 use Rattle.carv_objects.specs.Laws.Formed.{leaves_as}
-use Rattle.carv_objects.specs.declared.Answer.{Answer}
 use Rattle.carv_objects.specs.Answer.{number, value}
 use Rattle.carv_objects.specs.Laws.AreaSteps.{budget_here, budget_gone}
 use Rattle.carv_objects.specs.Laws.Calls.{area_sound, area_formed, account_at_sound, refused, refused_after, answered, booked_yes, booked_no, carved_yes, carved_no, free_here, charged_sound, carve_refused, carve_left, carve_memory, stored_budget, kept_at}

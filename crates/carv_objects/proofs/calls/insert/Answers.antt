@@ -1,13 +1,11 @@
 -- `carv_objects::calls::insert` meets its contract. Assumes nothing.
-use borrow.Author.Rules.{rules}
 use Rattle.carv_objects.proofs.Rules.{said_not, said_so}
-use mathlib.Core.Path.{refl, ap}
+use mathlib.Core.Path.{ap}
 use Rattle.carv_objects.specs.Laws.Formed.{leaves_as}
 use Rattle.carv_objects.specs.Laws.AreaSteps.{budget_here, budget_gone}
 use Rattle.carv_objects.specs.Laws.Calls.{area_sound, area_formed, account_at_sound, refused, answered, booked_yes, booked_no, free_here, stored_plain, kept_at}
 use Rattle.carv_objects_spec.proofs.Laws.Questions.{insert_unlisted, insert_kind, insert_full, insert_payer, insert_cover, insert_done}
 use Rattle.carv_objects_spec.proofs.Laws.Kept.{insert_kept}
-use Rattle.carv_objects.specs.declared.Answer.{Answer}
 use Rattle.carv_objects.specs.Answer.{number, value}
 use Rattle.carv_objects.specs.Area.{decode}
 use mathlib.Core.Bool.{not}

@@ -1,13 +1,10 @@
 -- `carv_objects::calls::pays` meets its contract. The loop's invariant: from place i on, id pays for another object exactly where it does at all.
 -- The measure is the number of places left. Assumes nothing.
 use Prim.Native.Nat.{◌-◌}
-use native.Mathlib.Omega.{arith}
-use mathlib.Core.Path.{◌≡◌, refl}
+use mathlib.Core.Path.{◌≡◌}
 use lib.ListN.{length, drop}
-use borrow.Author.Rules.{rules}
 use Rattle.carv_objects_spec.specs.Registry.{pays_in, pays_for}
 use Rattle.carv_objects.specs.Area.{decode}
-use Rattle.carv_objects.specs.Laws.CallSteps.{pays_ends, pays_found, pays_on}
 use Rattle.carv_objects.proofs.calls.pays.Given as goal
 
 abbrev pub invariant-loop-i : goal.invariant-loop-i

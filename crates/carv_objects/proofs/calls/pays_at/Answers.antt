@@ -1,5 +1,4 @@
 -- `carv_objects::calls::pays_at` meets its contract. Assumes nothing.
-use borrow.Author.Rules.{rules}
 use mathlib.Core.Path.{sym, ◌∙◌}
 use Rattle.carv_objects.specs.Laws.CallSteps.{pays_self, pays_other, pays_there}
 use Rattle.carv_objects.proofs.calls.pays_at.Goals as goal

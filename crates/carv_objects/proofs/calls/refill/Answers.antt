@@ -1,11 +1,9 @@
 -- `carv_objects::calls::refill` meets its contract. Assumes nothing.
-use borrow.Author.Rules.{rules}
 use mathlib.Core.Path.{ap, ◌∙◌}
-use mathlib.Core.Option.{Option, some}
+use mathlib.Core.Option.{some}
 use mathlib.Core.Bool.{Bool}
 use Rattle.carv_objects.specs.Laws.Formed.{leaves_as}
-use Rattle.carv_objects.specs.declared.Answer.{Answer}
-use Rattle.carv_objects_spec.specs.Reply.{Value, renewed}
+use Rattle.carv_objects_spec.specs.Reply.{renewed}
 use Rattle.carv_objects.specs.Answer.{number, value}
 use Rattle.carv_objects.specs.Laws.AreaSteps.{budget_here, budget_gone}
 use Rattle.carv_objects.specs.Laws.Booked.{renew_is, refill_answer}

@@ -1,5 +1,4 @@
 -- `carv_objects::calls::remove` meets its contract. Assumes nothing.
-use borrow.Author.Rules.{rules}
 use mathlib.Core.Path.{sym, ◌∙◌}
 use Rattle.carv_objects.specs.Laws.AreaSteps.{located_here, located_gone, gone_has, here_has}
 use Rattle.carv_objects.specs.Laws.Calls.{area_sound, area_formed, refused}

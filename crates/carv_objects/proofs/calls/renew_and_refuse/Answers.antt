@@ -1,5 +1,4 @@
 -- `carv_objects::calls::renew_and_refuse` meets its contract. Assumes nothing.
-use borrow.Author.Rules.{rules}
 use mathlib.Core.Path.{refl}
 use Rattle.carv_objects.specs.Laws.Formed.{leaves_as}
 use Rattle.carv_objects.specs.Laws.Calls.{renewed_by}

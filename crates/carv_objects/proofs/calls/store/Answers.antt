@@ -1,5 +1,4 @@
 -- `carv_objects::calls::store` meets its contract. Assumes nothing.
-use borrow.Author.Rules.{rules}
 use Rattle.carv_objects.specs.Laws.Formed.{leaves_as}
 use Rattle.carv_objects.specs.Laws.Calls.{store_room, store_next, store_same}
 use Rattle.carv_objects.specs.Area.{decode}

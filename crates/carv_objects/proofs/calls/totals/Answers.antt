@@ -1,6 +1,5 @@
 -- `carv_objects::calls::totals` meets its contract. Assumes nothing.
-use borrow.Author.Rules.{rules}
-use mathlib.Core.Path.{refl, sym, ap, ◌∙◌}
+use mathlib.Core.Path.{refl, ap}
 use mathlib.Core.Option.{some}
 use Rattle.carv_objects_spec.specs.declared.Totals.{Totals}
 use Rattle.carv_objects_spec.specs.Reply.{of_totals}

@@ -1,5 +1,4 @@
 -- `carv_objects::cpu::renew_and_test` meets its contract. Assumes nothing.
-use borrow.Author.Rules.{rules}
 use Rattle.carv_objects.specs.Laws.AreaSteps.{budget_here, budget_gone}
 use Rattle.carv_objects.specs.Laws.Calls.{area_formed, account_at_sound}
 use Rattle.carv_objects.specs.Laws.Cpu.{not_renewed, cpu_none, cpu_some, renewed_is, renews}

@@ -1,5 +1,4 @@
 -- `carv_objects::opening::open` meets its contract. Assumes nothing.
-use borrow.Author.Rules.{rules}
 use Rattle.carv_objects.specs.Laws.Calls.{booked_yes, booked_no}
 use Rattle.carv_objects.specs.Laws.Opening.{open_size, open_share, open_done}
 use Rattle.carv_objects.proofs.opening.open.Goals as goal

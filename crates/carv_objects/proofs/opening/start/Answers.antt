@@ -1,5 +1,4 @@
 -- `carv_objects::opening::start` meets its contract. Assumes nothing.
-use borrow.Author.Rules.{rules}
 use mathlib.Core.Path.{◌∙◌}
 use Rattle.carv_objects.specs.Laws.Opening.{start_formed}
 use Rattle.carv_objects.proofs.opening.start.Goals as goal

@@ -1,5 +1,4 @@
 -- `carv_objects::opening::write_only` meets its contract. Assumes nothing.
-use borrow.Author.Rules.{rules}
 use mathlib.Core.Path.{refl}
 use Rattle.carv_objects.specs.Laws.Opening.{cleared_stored, cleared_room, only_row}
 use Rattle.carv_objects.proofs.opening.write_only.Goals as goal

@@ -1,5 +1,4 @@
 -- `carv_objects::opening::write_table` meets its contract. Assumes nothing.
-use borrow.Author.Rules.{rules}
 use mathlib.Core.Path.{◌∙◌}
 use Rattle.carv_objects.specs.Laws.Formed.{length_table}
 use Rattle.carv_objects.specs.Laws.Opening.{table_put}

@@ -1,5 +1,4 @@
 -- `carv_objects::rows::append_entry` meets its contract. Assumes nothing.
-use borrow.Author.Rules.{rules}
 use Rattle.carv_objects.specs.Laws.AreaSteps.{appended}
 use Rattle.carv_objects.proofs.rows.append_entry.Goals as goal
 

@@ -1,5 +1,4 @@
 -- `carv_objects::rows::write_entry` meets its contract. Assumes nothing.
-use borrow.Author.Rules.{rules}
 use Rattle.carv_objects.specs.Laws.Rows.{row_set}
 use Rattle.carv_objects.proofs.rows.write_entry.Goals as goal
 

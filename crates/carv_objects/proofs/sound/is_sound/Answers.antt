@@ -2,7 +2,6 @@
 use native.Mathlib.Omega.{arith}
 use Rattle.carv_objects.specs.Area.{table}
 use Rattle.carv_objects.specs.Laws.SoundBridge.{asked_size, asked}
-use borrow.Author.Rules.{rules}
 use Rattle.carv_objects.proofs.sound.is_sound.Goals as goal
 
 pub returns-then-area-ne-BYTES : goal.returns-then-area-ne-BYTES

@@ -1,14 +1,8 @@
 -- `carv_objects::sound::is_zero` meets its contract. The loop's invariant: what was read, joined, is 0 and the numbers from i on are 0, just if all are.
 -- Assumes nothing.
 use native.Mathlib.Omega.{arith}
-use mathlib.Core.Path.{◌≡◌, refl, sym, ◌∙◌}
-use mathlib.Core.Bool.{◌&&◌}
-use Prim.Native.Nat.{◌-◌}
-use lib.ListN.{length, drop}
-use lib.Dec.{eqb}
-use Rattle.carv_area.specs.Zero.{all_zero}
+use mathlib.Core.Path.{refl, sym, ◌∙◌}
 use Rattle.carv_area.specs.Laws.Zero.{zero_more, zero_done}
-use borrow.Author.Rules.{rules}
 use Rattle.carv_objects.proofs.sound.is_zero.Goals as goal
 
 pub loop-i-init : goal.loop-i-init

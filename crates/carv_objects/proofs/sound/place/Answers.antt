@@ -1,11 +1,9 @@
 -- `carv_objects::sound::place` meets its contract. The loop's invariant: the ids before lo are below p, and those from lo + len on are above it.
 -- Assumes nothing.
 use native.Mathlib.Omega.{arith}
-use mathlib.Core.Logic.{⊎_elim}
 use Prim.Native.Nat.{◌/◌}
 use Rattle.carv_area.specs.Words.{words}
-use Rattle.carv_objects.specs.Laws.SoundPlace.{Near, near, near_up, near_down, near_past, near_other}
-use borrow.Author.Rules.{rules}
+use Rattle.carv_objects.specs.Laws.SoundPlace.{near, near_up, near_down, near_past, near_other}
 use Rattle.carv_objects.proofs.sound.place.Goals.{then-x-p-2, else-x-p-2}
 use Rattle.carv_objects.proofs.sound.place.Goals as goal
 
@@ -21,7 +19,7 @@ pub loop-len-preserved : goal.loop-len-preserved
 loop-len-preserved c =
     let at = c.loop-len in
     elim c.if-x-p-2.branch [
-      then-x-p-2 w ↦ rw w.lo-is (near_up c.requires.rise at.invariant (at.len / 2) (omega arith) (omega arith) (omega arith))
+      | then-x-p-2 w ↦ rw w.lo-is (near_up c.requires.rise at.invariant (at.len / 2) (omega arith) (omega arith) (omega arith))
       | else-x-p-2 w ↦ rw w.lo-is (near_down c.requires.rise at.invariant (at.len / 2) (omega arith) (omega arith) (omega arith))
     ]
 

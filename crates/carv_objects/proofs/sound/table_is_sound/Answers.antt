@@ -2,8 +2,6 @@
 use native.Mathlib.Omega.{arith}
 use mathlib.Core.Path.{sym, ◌∙◌}
 use mathlib.Core.Bool.{false≢true}
-use borrow.Author.Tests.{not-true, not-false}
-use borrow.Author.Rules.{rules}
 use Rattle.carv_objects.proofs.sound.table_is_sound.Goals as goal
 
 pub returns-then-n-gt-PLACES : goal.returns-then-n-gt-PLACES

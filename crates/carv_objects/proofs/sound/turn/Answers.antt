@@ -1,10 +1,8 @@
 -- `carv_objects::sound::turn` meets its contract. Assumes nothing.
-use borrow.Author.Rules.{rules}
 use native.Mathlib.Omega.{arith}
 use mathlib.Core.Bool.{false≢true}
 use mathlib.Core.Path.{◌∙◌}
 use lib.ListN.{length-set}
-use borrow.Author.Tests.{not-true, not-false}
 use Rattle.carv_objects.specs.Laws.SoundTurn.{owner_here, owner_none, in_figures, front, used_on, used_off, memory_on, memory_off, cpu_on, cpu_off}
 use Rattle.carv_objects.proofs.sound.turn.Goals as goal
 

@@ -2,13 +2,9 @@
 use native.Mathlib.Omega.{arith}
 use mathlib.Core.Path.{◌≡◌, sym, ◌∙◌}
 use mathlib.Core.Bool.{false≢true}
-use Prim.Native.Nat.{◌≤◌, ◌-◌}
 use lib.ListN.{get_or}
-use borrow.Author.Tests.{not-true, not-false}
 use Rattle.carv_area.specs.Words.{words}
-use Rattle.carv_objects.specs.Laws.SoundWalk.{Walk}
 use Rattle.carv_objects.specs.Laws.SoundTurn.{walk_none, used_zero, memory_zero, cpu_zero, ended}
-use borrow.Author.Rules.{rules}
 use Rattle.carv_objects.proofs.sound.whole.Goals as goal
 
 pub returns-then-n-eq0 : goal.returns-then-n-eq0

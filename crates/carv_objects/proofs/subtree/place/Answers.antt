@@ -1,5 +1,4 @@
 -- `carv_objects::subtree::place` meets its contract. Assumes nothing.
-use borrow.Author.Rules.{rules}
 use Rattle.carv_objects.specs.Laws.AreaSteps.{located_here}
 use Rattle.carv_objects.specs.Laws.CallSteps.{place_of}
 use Rattle.carv_objects.specs.Area.{decode}

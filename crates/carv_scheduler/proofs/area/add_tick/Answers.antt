@@ -1,5 +1,5 @@
 -- `carv_scheduler::area::add_tick` meets its contract. Assumes nothing.
-use Rattle.std.proofs.Common.{refl, ◌∙◌, rules}
+use Rattle.std.proofs.Common.{refl, ◌∙◌}
 use Rattle.carv_scheduler.specs.Area.{threads_part}
 use Rattle.carv_scheduler.specs.Laws.AreaSteps.{length_threads, thread_room}
 use Rattle.carv_scheduler.specs.Laws.RowWords.{thread_ticked}

@@ -1,5 +1,4 @@
 -- `carv_scheduler::area::find_thread_near` meets its contract. Assumes nothing.
-use Rattle.std.proofs.Common.{rules}
 use Rattle.carv_scheduler.specs.Area.{threads_part}
 use Rattle.carv_scheduler.specs.Laws.AreaSteps.{threads_keyed, thread_found}
 use Rattle.carv_scheduler.proofs.area.find_thread_near.Goals as goal

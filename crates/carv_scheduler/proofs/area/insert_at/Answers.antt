@@ -1,5 +1,5 @@
 -- `carv_scheduler::area::insert_at` meets its contract. Assumes nothing.
-use Rattle.std.proofs.Common.{◌∙◌, rules}
+use Rattle.std.proofs.Common.{◌∙◌}
 use Rattle.carv_scheduler.specs.Area.{threads_part}
 use Rattle.carv_scheduler.specs.Laws.AreaSteps.{length_threads, threads_space, place_counted, thread_inserted}
 use Rattle.carv_scheduler.proofs.area.insert_at.Goals as goal

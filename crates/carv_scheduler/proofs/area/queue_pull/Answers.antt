@@ -1,5 +1,5 @@
 -- `carv_scheduler::area::queue_pull` meets its contract. Assumes nothing.
-use Rattle.std.proofs.Common.{◌∙◌, rules}
+use Rattle.std.proofs.Common.{◌∙◌}
 use Rattle.carv_scheduler.specs.Area.{queue_part}
 use Rattle.carv_scheduler.specs.Laws.Formed.{queue_written}
 use Rattle.carv_scheduler.specs.Laws.AreaSteps.{length_queue}

@@ -1,5 +1,5 @@
 -- `carv_scheduler::area::remove_thread` meets its contract. Assumes nothing.
-use Rattle.std.proofs.Common.{◌∙◌, rules}
+use Rattle.std.proofs.Common.{◌∙◌}
 use Rattle.carv_scheduler.specs.Area.{threads_part}
 use Rattle.carv_scheduler.specs.Laws.AreaSteps.{length_threads, threads_room, thread_counted, thread_removed}
 use Rattle.carv_scheduler.proofs.area.remove_thread.Goals as goal

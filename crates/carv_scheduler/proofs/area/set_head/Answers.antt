@@ -1,5 +1,5 @@
 -- `carv_scheduler::area::set_head` meets its contract. Assumes nothing.
-use Rattle.std.proofs.Common.{refl, ◌∙◌, rules}
+use Rattle.std.proofs.Common.{refl, ◌∙◌}
 use Rattle.carv_scheduler.specs.Area.{head}
 use Rattle.carv_scheduler.specs.Laws.AreaSteps.{length_head, head_set}
 use Rattle.carv_scheduler.proofs.area.set_head.Goals as goal

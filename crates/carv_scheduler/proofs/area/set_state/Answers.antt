@@ -1,5 +1,5 @@
 -- `carv_scheduler::area::set_state` meets its contract. Assumes nothing.
-use Rattle.std.proofs.Common.{◌∙◌, rules}
+use Rattle.std.proofs.Common.{◌∙◌}
 use Rattle.carv_scheduler.specs.Area.{threads_part}
 use Rattle.carv_scheduler.specs.Laws.AreaSteps.{length_threads, thread_room}
 use Rattle.carv_scheduler.specs.Laws.RowWords.{thread_state}

@@ -1,5 +1,4 @@
 -- `carv_scheduler::area::thread_at` meets its contract. Assumes nothing.
-use Rattle.std.proofs.Common.{rules}
 use Rattle.carv_scheduler.specs.Area.{threads_part}
 use Rattle.carv_scheduler.specs.Laws.AreaSteps.{thread_room, thread_is}
 use Rattle.carv_scheduler.proofs.area.thread_at.Goals as goal

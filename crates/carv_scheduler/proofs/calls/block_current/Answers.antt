@@ -1,5 +1,5 @@
 -- `carv_scheduler::calls::block_current` meets its contract. Assumes nothing.
-use Rattle.std.proofs.Common.{sym, refl, ◌∙◌, rules}
+use Rattle.std.proofs.Common.{sym, refl, ◌∙◌}
 use Rattle.carv_objects.proofs.Rules.{said_not, said_so}
 use Rattle.carv_scheduler_spec.proofs.Laws.Kept.{block_current_kept}
 use Rattle.carv_scheduler.specs.Laws.Formed.{leaves_as}

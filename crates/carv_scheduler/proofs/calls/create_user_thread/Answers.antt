@@ -1,6 +1,5 @@
 -- `carv_scheduler::calls::create_user_thread` meets its contract. Assumes nothing.
-use Rattle.std.proofs.Common.{sym, refl, ◌∙◌, arith, rules}
-use borrow.Author.Tests.{not-true, not-false}
+use Rattle.std.proofs.Common.{sym, refl, ◌∙◌, arith}
 use Rattle.carv_scheduler_spec.proofs.Laws.Kept.{create_user_thread_kept}
 use Rattle.carv_scheduler.specs.Laws.Formed.{leaves_as}
 use Rattle.carv_scheduler.specs.Laws.AreaLaws.{area_formed, area_sound}
@@ -43,9 +42,8 @@ insert_thread-requires c =
     record { well_formed = area_formed _ c.requires; new = new_id (decode c.args.a.now) c.args.id _ (sym c.has_thread.ensures ∙ c.if-has_thread.false) c.thread_count.ensures c.if-thread_count-ge-PLACES.false (omega (arith, c.ranges.id)) }
 
 pub returns : goal.returns
-returns c =
-    (
-      answered _ _ c.requires _ (create_done c.args.id c.args.budget c.args.stack (decode c.args.a.now) (sym c.has_thread.ensures ∙ c.if-has_thread.false) c.if-id-eq-FIRST.false c.if-id-eq-IDLE.false (rw (← c.thread_count.ensures) c.if-thread_count-ge-PLACES.false) c.if-not-stack.false) _ refl refl _
-          (leaves_as _ _ _ (created_is (decode c.args.a.now) c.args.id _ _ c.fresh_thread.ensures) c.insert_thread.ensures) (create_user_thread_kept c.args.id c.args.budget c.args.stack (decode c.args.a.now) (omega (arith, c.ranges.id)) (area_sound _ c.requires)),
-      refl,
-    )
+returns c = (
+  answered _ _ c.requires _ (create_done c.args.id c.args.budget c.args.stack (decode c.args.a.now) (sym c.has_thread.ensures ∙ c.if-has_thread.false) c.if-id-eq-FIRST.false c.if-id-eq-IDLE.false (rw (← c.thread_count.ensures) c.if-thread_count-ge-PLACES.false) c.if-not-stack.false) _ refl refl _
+      (leaves_as _ _ _ (created_is (decode c.args.a.now) c.args.id _ _ c.fresh_thread.ensures) c.insert_thread.ensures) (create_user_thread_kept c.args.id c.args.budget c.args.stack (decode c.args.a.now) (omega (arith, c.ranges.id)) (area_sound _ c.requires)),
+  refl,
+)

@@ -1,5 +1,4 @@
 -- `carv_scheduler::calls::current_place` meets its contract. Assumes nothing.
-use Rattle.std.proofs.Common.{rules}
 use Rattle.carv_scheduler.specs.Laws.AreaLaws.{area_formed, area_sound}
 use Rattle.carv_scheduler.specs.Laws.CallSteps.{current_found, current_missed}
 use Rattle.carv_scheduler.specs.Area.{decode}

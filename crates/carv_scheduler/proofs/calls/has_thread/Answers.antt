@@ -1,5 +1,4 @@
 -- `carv_scheduler::calls::has_thread` meets its contract. Assumes nothing.
-use Rattle.std.proofs.Common.{rules}
 use Rattle.carv_scheduler.specs.Laws.CallSteps.{found_has, missed_has}
 use Rattle.carv_scheduler.specs.Area.{decode}
 use Rattle.carv_scheduler.proofs.calls.has_thread.Goals as goal

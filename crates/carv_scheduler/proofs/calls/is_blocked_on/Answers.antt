@@ -1,5 +1,5 @@
 -- `carv_scheduler::calls::is_blocked_on` meets its contract. Assumes nothing.
-use Rattle.std.proofs.Common.{true, false, sym, refl, ◌∙◌, rules}
+use Rattle.std.proofs.Common.{true, false, sym, refl, ◌∙◌}
 use Rattle.carv_objects.proofs.Rules.{said_not, said_so}
 use Rattle.carv_scheduler.specs.Laws.AreaLaws.{area_formed}
 use Rattle.carv_scheduler.specs.Laws.Calls.{refused, read_serves}

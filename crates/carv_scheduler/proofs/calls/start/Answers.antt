@@ -1,5 +1,5 @@
 -- `carv_scheduler::calls::start` meets its contract. Assumes nothing.
-use Rattle.std.proofs.Common.{refl, rules}
+use Rattle.std.proofs.Common.{refl}
 use Rattle.carv_scheduler_spec.proofs.Laws.Kept.{start_kept}
 use Rattle.carv_scheduler.specs.Laws.Formed.{leaves_as}
 use Rattle.carv_scheduler.specs.Laws.AreaLaws.{area_formed, area_sound}

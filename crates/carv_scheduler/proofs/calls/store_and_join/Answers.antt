@@ -1,5 +1,4 @@
 -- `carv_scheduler::calls::store_and_join` meets its contract. Assumes nothing.
-use Rattle.std.proofs.Common.{rules}
 use Rattle.carv_scheduler.specs.Laws.Formed.{leaves_as}
 use Rattle.carv_scheduler.specs.Laws.CallSteps.{stored_joined, queue_kept}
 use Rattle.carv_scheduler.specs.Area.{decode}

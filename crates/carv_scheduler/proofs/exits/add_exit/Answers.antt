@@ -1,5 +1,5 @@
 -- `carv_scheduler::exits::add_exit` meets its contract. Assumes nothing.
-use Rattle.std.proofs.Common.{◌∙◌, arith, rules}
+use Rattle.std.proofs.Common.{◌∙◌, arith}
 use Rattle.carv_scheduler.specs.Area.{exits_part}
 use Rattle.carv_scheduler.specs.Laws.Formed.{exits_written}
 use Rattle.carv_scheduler.specs.Laws.ExitSteps.{length_exits}

@@ -1,5 +1,4 @@
 -- `carv_scheduler::exits::append_exit` meets its contract. Assumes nothing.
-use Rattle.std.proofs.Common.{rules}
 use Rattle.carv_scheduler.specs.Laws.ExitSteps.{exit_appended}
 use Rattle.carv_scheduler.proofs.exits.append_exit.Goals as goal
 

@@ -1,5 +1,5 @@
 -- `carv_scheduler::exits::drop_oldest` meets its contract. Assumes nothing.
-use Rattle.std.proofs.Common.{◌∙◌, rules}
+use Rattle.std.proofs.Common.{◌∙◌}
 use Rattle.carv_scheduler.specs.Area.{exits_part}
 use Rattle.carv_scheduler.specs.Laws.ExitSteps.{length_exits, exits_room, exit_counted, oldest_dropped}
 use Rattle.carv_scheduler.proofs.exits.drop_oldest.Goals as goal

@@ -1,5 +1,4 @@
 -- `carv_scheduler::exits::exit_at` meets its contract. Assumes nothing.
-use Rattle.std.proofs.Common.{rules}
 use Rattle.carv_scheduler.specs.Area.{exits_part}
 use Rattle.carv_scheduler.specs.Laws.ExitSteps.{exit_room, exit_is}
 use Rattle.carv_scheduler.proofs.exits.exit_at.Goals as goal

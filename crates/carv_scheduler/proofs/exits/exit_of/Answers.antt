@@ -1,7 +1,6 @@
 -- `carv_scheduler::exits::exit_of` meets its contract. The loop's invariant: the oldest match from place i on is the oldest of all. The measure is the number of
 -- places left. Assumes nothing.
-use Rattle.std.proofs.Common.{◌≡◌, ◌-◌, length, drop, refl, arith}
-use Rattle.carv_scheduler_spec.specs.Scheduler.{exit_in}
+use Rattle.std.proofs.Common.{refl, arith}
 use Rattle.carv_scheduler.specs.Area.{decode}
 use Rattle.carv_scheduler.specs.Laws.AreaLaws.{area_formed}
 use Rattle.carv_scheduler.specs.Laws.ExitSteps.{exit_ends, exit_found, exit_on, cause_served, no_cause_served}

@@ -1,10 +1,8 @@
 -- `carv_scheduler::exits::exit_of` meets its contract. The loop's invariant: the oldest match from place i on is the oldest of all. The measure is the number of
 -- places left. Assumes nothing.
-use Rattle.std.proofs.Common.{◌≡◌, ◌-◌, length, drop, refl, arith}
+use Rattle.std.proofs.Common.{◌≡◌, ◌-◌, length, drop}
 use Rattle.carv_scheduler_spec.specs.Scheduler.{exit_in}
 use Rattle.carv_scheduler.specs.Area.{decode}
-use Rattle.carv_scheduler.specs.Laws.AreaLaws.{area_formed}
-use Rattle.carv_scheduler.specs.Laws.ExitSteps.{exit_ends, exit_found, exit_on, cause_served, no_cause_served}
 use Rattle.carv_scheduler.proofs.exits.exit_of.Given as goal
 
 abbrev pub invariant-loop-i : goal.invariant-loop-i

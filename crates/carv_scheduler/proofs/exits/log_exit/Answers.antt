@@ -1,5 +1,4 @@
 -- `carv_scheduler::exits::log_exit` meets its contract. Assumes nothing.
-use Rattle.std.proofs.Common.{rules}
 use Rattle.carv_scheduler.specs.Laws.ExitSteps.{logged_room, logged_left}
 use Rattle.carv_scheduler.proofs.exits.log_exit.Goals as goal
 

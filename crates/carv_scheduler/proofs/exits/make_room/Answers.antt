@@ -1,5 +1,4 @@
 -- `carv_scheduler::exits::make_room` meets its contract. Assumes nothing.
-use Rattle.std.proofs.Common.{rules}
 use Rattle.carv_scheduler.specs.Laws.ExitSteps.{full_some, room_made, room_there}
 use Rattle.carv_scheduler.proofs.exits.make_room.Goals as goal
 

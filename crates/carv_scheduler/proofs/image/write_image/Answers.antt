@@ -1,5 +1,4 @@
 -- `carv_scheduler::image::write_image` meets its contract. Assumes nothing.
-use Rattle.std.proofs.Common.{rules}
 use Rattle.carv_scheduler.specs.Laws.ImageCall.{image_refused, image_filled}
 use Rattle.carv_scheduler.proofs.image.write_image.Goals as goal
 

@@ -1,5 +1,4 @@
 -- `carv_scheduler::killing::end_thread` meets its contract. Assumes nothing.
-use Rattle.std.proofs.Common.{rules}
 use Rattle.carv_scheduler.specs.Laws.KillSteps.{killed_current, killed_other}
 use Rattle.carv_scheduler.proofs.killing.end_thread.Goals as goal
 

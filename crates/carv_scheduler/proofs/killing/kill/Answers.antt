@@ -1,5 +1,4 @@
 -- `carv_scheduler::killing::kill` meets its contract. Assumes nothing.
-use Rattle.std.proofs.Common.{rules}
 use Rattle.carv_objects.proofs.Rules.{said_not, said_so}
 use Rattle.carv_scheduler.specs.Laws.AreaLaws.{area_formed}
 use Rattle.carv_scheduler.specs.Laws.Places.{found_here, found_gone, gone_has}

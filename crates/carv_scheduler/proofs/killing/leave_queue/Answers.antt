@@ -1,5 +1,4 @@
 -- `carv_scheduler::killing::leave_queue` meets its contract. Assumes nothing.
-use Rattle.std.proofs.Common.{rules}
 use Rattle.carv_scheduler.specs.Laws.KillSteps.{queue_here, queue_gone, queue_stays, queue_left}
 use Rattle.carv_scheduler.specs.Area.{decode}
 use Rattle.carv_scheduler.proofs.killing.leave_queue.Goals as goal

@@ -1,6 +1,6 @@
 -- `carv_scheduler::killing::queue_find` meets its contract. The loop's invariant: no place before i has the id. The measure is the number of places left.
 -- Assumes nothing.
-use Rattle.std.proofs.Common.{◌≡◌, ℕ, ◌-◌, ◌<◌, length, get_or, sym, ◌∙◌, not-suc-le-zero, arith, rules}
+use Rattle.std.proofs.Common.{sym, ◌∙◌, not-suc-le-zero, arith}
 use Rattle.carv_area.specs.Laws.Keys.{find_none, find_at}
 use Rattle.carv_scheduler.specs.Area.{decode}
 use Rattle.carv_scheduler.specs.Laws.KillSteps.{none_further}

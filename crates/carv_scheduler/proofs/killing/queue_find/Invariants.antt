@@ -1,9 +1,7 @@
 -- `carv_scheduler::killing::queue_find` meets its contract. The loop's invariant: no place before i has the id. The measure is the number of places left.
 -- Assumes nothing.
-use Rattle.std.proofs.Common.{◌≡◌, ℕ, ◌-◌, ◌<◌, length, get_or, sym, ◌∙◌, not-suc-le-zero, arith, rules}
-use Rattle.carv_area.specs.Laws.Keys.{find_none, find_at}
+use Rattle.std.proofs.Common.{◌≡◌, ℕ, ◌-◌, ◌<◌, length, get_or}
 use Rattle.carv_scheduler.specs.Area.{decode}
-use Rattle.carv_scheduler.specs.Laws.KillSteps.{none_further}
 use Rattle.carv_scheduler.proofs.killing.queue_find.Given as goal
 
 abbrev pub invariant-loop-i : goal.invariant-loop-i

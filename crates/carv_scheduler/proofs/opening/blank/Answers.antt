@@ -1,5 +1,5 @@
 -- `carv_scheduler::opening::blank` meets its contract. Assumes nothing.
-use Rattle.std.proofs.Common.{◌∙◌, rules}
+use Rattle.std.proofs.Common.{◌∙◌}
 use Rattle.carv_scheduler.specs.Laws.Opening.{blank_formed}
 use Rattle.carv_scheduler.proofs.opening.blank.Goals as goal
 

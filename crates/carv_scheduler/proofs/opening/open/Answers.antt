@@ -1,5 +1,4 @@
 -- `carv_scheduler::opening::open` meets its contract. Assumes nothing.
-use Rattle.std.proofs.Common.{rules}
 use Rattle.carv_scheduler.specs.Laws.Opening.{first_new, idle_new, board_opened, opened_size, opened_share, opened_done}
 use Rattle.carv_scheduler.specs.Laws.Formed.{unchanged}
 use Rattle.carv_scheduler.proofs.opening.open.Goals as goal

@@ -1,5 +1,4 @@
 -- `carv_scheduler::planning::choose` meets its contract. Assumes nothing.
-use Rattle.std.proofs.Common.{rules}
 use Rattle.carv_scheduler.specs.Laws.Planning.{chooses_within, chooses_at, chooses_idle}
 use Rattle.carv_scheduler.proofs.planning.choose.Goals as goal
 

@@ -1,5 +1,4 @@
 -- `carv_scheduler::planning::guess_behind` meets its contract. Assumes nothing.
-use Rattle.std.proofs.Common.{rules}
 use Rattle.carv_scheduler.specs.Laws.Planning.{guess_on, guess_over, guess_none}
 use Rattle.carv_scheduler.proofs.planning.guess_behind.Goals as goal
 

@@ -1,5 +1,5 @@
 -- `carv_scheduler::planning::has_time` meets its contract. Assumes nothing.
-use Rattle.std.proofs.Common.{get_or, rules}
+use Rattle.std.proofs.Common.{get_or}
 use Rattle.carv_scheduler.specs.Laws.Rows.{no_row}
 use Rattle.carv_scheduler.specs.Laws.Planning.{tests_free, tests_budget}
 use Rattle.carv_scheduler.specs.Area.{decode}

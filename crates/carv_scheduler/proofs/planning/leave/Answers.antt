@@ -1,5 +1,4 @@
 -- `carv_scheduler::planning::leave` meets its contract. Assumes nothing.
-use Rattle.std.proofs.Common.{rules}
 use Rattle.carv_scheduler.specs.Laws.Places.{found_here, found_gone}
 use Rattle.carv_scheduler.specs.Laws.PlanSteps.{leaves_not, leaves_at, leaves_gone}
 use Rattle.carv_scheduler.specs.Area.{decode}

@@ -1,5 +1,5 @@
 -- `carv_scheduler::planning::plan` meets its contract. Assumes nothing.
-use Rattle.std.proofs.Common.{refl, rules}
+use Rattle.std.proofs.Common.{refl}
 use Rattle.carv_scheduler.specs.Laws.AreaLaws.{area_formed}
 use Rattle.carv_scheduler.specs.Laws.PlanSteps.{plan_refused, planned_formed, planned_current, planned_dead, planned_here, planned}
 use Rattle.carv_scheduler.proofs.planning.plan.Goals as goal

@@ -1,5 +1,5 @@
 -- `carv_scheduler::planning::put_back` meets its contract. Assumes nothing.
-use Rattle.std.proofs.Common.{arith, rules}
+use Rattle.std.proofs.Common.{arith}
 use Rattle.carv_scheduler.specs.Laws.AreaLaws.{area_formed}
 use Rattle.carv_scheduler.specs.Laws.Places.{found_here, found_gone}
 use Rattle.carv_scheduler.specs.Laws.PlanSteps.{backs_gone, backs_not, backs_idle, backs_room, backs_goes}

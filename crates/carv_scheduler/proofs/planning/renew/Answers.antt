@@ -1,5 +1,5 @@
 -- `carv_scheduler::planning::renew` meets its contract. Assumes nothing.
-use Rattle.std.proofs.Common.{◌∙◌, rules}
+use Rattle.std.proofs.Common.{◌∙◌}
 use Rattle.carv_scheduler.specs.Area.{registry_part}
 use Rattle.carv_scheduler.specs.Laws.AreaSteps.{length_registry}
 use Rattle.carv_scheduler.specs.Laws.Planning.{renewing}

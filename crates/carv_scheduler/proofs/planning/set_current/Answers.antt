@@ -1,5 +1,4 @@
 -- `carv_scheduler::planning::set_current` meets its contract. Assumes nothing.
-use Rattle.std.proofs.Common.{rules}
 use Rattle.carv_scheduler.specs.Laws.PlanSteps.{counted}
 use Rattle.carv_scheduler.proofs.planning.set_current.Goals as goal
 

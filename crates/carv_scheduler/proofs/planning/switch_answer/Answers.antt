@@ -1,5 +1,5 @@
 -- `carv_scheduler::planning::switch_answer` meets its contract. Assumes nothing.
-use Rattle.std.proofs.Common.{arith, rules}
+use Rattle.std.proofs.Common.{arith}
 use Rattle.carv_scheduler.specs.Laws.Places.{found_here, found_gone}
 use Rattle.carv_scheduler.specs.Laws.PlanSteps.{says_same, says_gone, says_kernel, says_root}
 use Rattle.carv_scheduler.specs.Area.{decode}

@@ -1,5 +1,4 @@
 -- `carv_scheduler::planning::switch_to` meets its contract. Assumes nothing.
-use Rattle.std.proofs.Common.{rules}
 use Rattle.carv_scheduler.specs.Laws.PlanSteps.{switches_not, switches_so}
 use Rattle.carv_scheduler.proofs.planning.switch_to.Goals as goal
 

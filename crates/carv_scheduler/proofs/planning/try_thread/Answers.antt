@@ -1,5 +1,4 @@
 -- `carv_scheduler::planning::try_thread` meets its contract. Assumes nothing.
-use Rattle.std.proofs.Common.{rules}
 use Rattle.carv_scheduler.specs.Laws.Places.{found_here, found_gone}
 use Rattle.carv_scheduler.specs.Laws.Planning.{tries_gone, tries_so, tries_not}
 use Rattle.carv_scheduler.specs.Area.{decode}

@@ -1,7 +1,6 @@
 -- `carv_scheduler::planning::walk` meets its contract. The loop's invariant: what is left to do from place k gives the whole answer.
 -- The measure is the number of places left. Assumes nothing.
-use Rattle.std.proofs.Common.{◌-◌, rules}
-use Rattle.carv_scheduler.specs.Laws.Planning.{Turn, turn_starts, turn_within, turn_found, turn_on, turn_ends}
+use Rattle.carv_scheduler.specs.Laws.Planning.{turn_starts, turn_within, turn_found, turn_on, turn_ends}
 use Rattle.carv_scheduler.proofs.planning.walk.Goals as goal
 
 pub loop-k-init : goal.loop-k-init

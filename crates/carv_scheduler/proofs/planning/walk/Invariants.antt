@@ -1,7 +1,7 @@
 -- `carv_scheduler::planning::walk` meets its contract. The loop's invariant: what is left to do from place k gives the whole answer.
 -- The measure is the number of places left. Assumes nothing.
-use Rattle.std.proofs.Common.{◌-◌, rules}
-use Rattle.carv_scheduler.specs.Laws.Planning.{Turn, turn_starts, turn_within, turn_found, turn_on, turn_ends}
+use Rattle.std.proofs.Common.{◌-◌}
+use Rattle.carv_scheduler.specs.Laws.Planning.{Turn}
 use Rattle.carv_scheduler.proofs.planning.walk.Given as goal
 
 abbrev pub invariant-loop-k : goal.invariant-loop-k

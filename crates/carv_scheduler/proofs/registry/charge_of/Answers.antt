@@ -1,5 +1,4 @@
 -- `carv_scheduler::registry::charge_of` meets its contract. Assumes nothing.
-use Rattle.std.proofs.Common.{rules}
 use Rattle.carv_scheduler.specs.Laws.OnRegistry.{part_fits, part_sound, part_read}
 use Rattle.carv_objects_spec.specs.Registry.{charge_of}
 use Rattle.carv_scheduler.proofs.registry.charge_of.Goals as goal

@@ -1,5 +1,4 @@
 -- `carv_scheduler::registry::pays_for_anything` meets its contract. Assumes nothing.
-use Rattle.std.proofs.Common.{rules}
 use Rattle.carv_scheduler.specs.Laws.OnRegistry.{part_fits, part_sound, part_read}
 use Rattle.carv_objects_spec.specs.Registry.{pays_for_anything}
 use Rattle.carv_scheduler.proofs.registry.pays_for_anything.Goals as goal

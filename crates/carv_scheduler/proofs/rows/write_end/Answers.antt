@@ -1,5 +1,4 @@
 -- `carv_scheduler::rows::write_end` meets its contract. Assumes nothing.
-use Rattle.std.proofs.Common.{rules}
 use Rattle.carv_scheduler.specs.Laws.Rows.{end_set}
 use Rattle.carv_scheduler.proofs.rows.write_end.Goals as goal
 

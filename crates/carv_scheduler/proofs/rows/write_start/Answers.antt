@@ -1,5 +1,4 @@
 -- `carv_scheduler::rows::write_start` meets its contract. Assumes nothing.
-use Rattle.std.proofs.Common.{rules}
 use Rattle.carv_scheduler.specs.Laws.Rows.{start_set}
 use Rattle.carv_scheduler.proofs.rows.write_start.Goals as goal
 

@@ -1,5 +1,4 @@
 -- `carv_scheduler::rows::write_thread` meets its contract. Assumes nothing.
-use Rattle.std.proofs.Common.{rules}
 use Rattle.carv_scheduler.specs.Laws.Rows.{thread_set}
 use Rattle.carv_scheduler.proofs.rows.write_thread.Goals as goal
 

@@ -1,6 +1,5 @@
 -- `carv_scheduler::sound::budget_fits` meets its contract. Assumes nothing.
-use Rattle.std.proofs.Common.{sym, ◌∙◌, rules}
-use borrow.Author.Tests.{not-true, not-false}
+use Rattle.std.proofs.Common.{sym, ◌∙◌}
 use Rattle.carv_scheduler.specs.Laws.SoundThread.{budget_paid, budget_some, budget_none}
 use Rattle.carv_scheduler.proofs.sound.budget_fits.Goals as goal
 

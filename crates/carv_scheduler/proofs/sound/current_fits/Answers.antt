@@ -1,5 +1,5 @@
 -- `carv_scheduler::sound::current_fits` meets its contract. Assumes nothing.
-use Rattle.std.proofs.Common.{arith, rules}
+use Rattle.std.proofs.Common.{arith}
 use Rattle.carv_area.specs.Words.{words}
 use Rattle.carv_scheduler.specs.Laws.SoundRows.{stands, missing}
 use Rattle.carv_scheduler.specs.Laws.SoundStates.{no_current, current_tells}

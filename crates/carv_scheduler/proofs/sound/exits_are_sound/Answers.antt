@@ -1,7 +1,6 @@
 -- `carv_scheduler::sound::exits_are_sound` meets its contract. The loop's invariant: the causes of the exits below i are listed ones. Assumes nothing.
-use Rattle.std.proofs.Common.{ℕ, ◌-◌, ◌<◌, ◌≤◌, sym, ap, ◌∙◌, true≢false, arith, rules}
+use Rattle.std.proofs.Common.{ℕ, sym, ap, ◌∙◌, true≢false, arith}
 use mathlib.Core.Bool.{false≢true}
-use borrow.Author.Tests.{not-true, not-false}
 use Rattle.carv_area.specs.Words.{words}
 use Rattle.carv_objects.proofs.Rules.{said_not, said_so}
 use Rattle.carv_scheduler_spec.specs.Scheduler.{cause_listed}

@@ -1,13 +1,7 @@
 -- `carv_scheduler::sound::exits_are_sound` meets its contract. The loop's invariant: the causes of the exits below i are listed ones. Assumes nothing.
-use Rattle.std.proofs.Common.{ℕ, ◌-◌, ◌<◌, ◌≤◌, sym, ap, ◌∙◌, true≢false, arith, rules}
-use mathlib.Core.Bool.{false≢true}
-use borrow.Author.Tests.{not-true, not-false}
+use Rattle.std.proofs.Common.{ℕ, ◌-◌, ◌<◌, ◌≤◌}
 use Rattle.carv_area.specs.Words.{words}
-use Rattle.carv_objects.proofs.Rules.{said_not, said_so}
-use Rattle.carv_scheduler_spec.specs.Scheduler.{cause_listed}
 use Rattle.carv_scheduler.specs.Laws.SoundWalk.{Listed}
-use Rattle.carv_scheduler.specs.Laws.SoundRows.{one_more}
-use Rattle.carv_scheduler.specs.Laws.SoundLog.{exit_listed, exits_sound}
 use Rattle.carv_scheduler.proofs.sound.exits_are_sound.Given as goal
 
 abbrev pub invariant-loop-i : goal.invariant-loop-i

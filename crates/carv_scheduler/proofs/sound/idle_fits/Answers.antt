@@ -1,5 +1,5 @@
 -- `carv_scheduler::sound::idle_fits` meets its contract. Assumes nothing.
-use Rattle.std.proofs.Common.{true≢false, arith, rules}
+use Rattle.std.proofs.Common.{true≢false, arith}
 use mathlib.Core.Bool.{false≢true}
 use Rattle.carv_area.specs.Words.{words}
 use Rattle.carv_scheduler.specs.Laws.SoundRows.{stands, missing}

@@ -1,9 +1,8 @@
 -- `carv_scheduler::sound::ids_rise` meets its contract. The loop's invariant: the ids below place i rise, and before is the last of them. Assumes nothing.
-use Rattle.std.proofs.Common.{◌≡◌, ◌-◌, length, true≢false, arith, length-set, rules}
+use Rattle.std.proofs.Common.{true≢false, arith, length-set}
 use mathlib.Core.Bool.{false≢true}
 use Rattle.carv_area.specs.Words.{words}
 use Rattle.carv_area.specs.Laws.Words.{word_below}
-use Rattle.carv_scheduler.specs.Laws.SoundWalk.{Order}
 use Rattle.carv_scheduler.specs.Laws.SoundRows.{order_none, order_first, order_more, order_off, order_all}
 use Rattle.carv_scheduler.proofs.sound.ids_rise.Goals as goal
 

@@ -1,6 +1,5 @@
 -- `carv_scheduler::sound::is_sound` meets its contract. Assumes nothing.
-use Rattle.std.proofs.Common.{sym, ◌∙◌, arith, rules}
-use borrow.Author.Tests.{not-true, not-false}
+use Rattle.std.proofs.Common.{sym, ◌∙◌, arith}
 use Rattle.carv_scheduler.specs.Area.{registry_part}
 use Rattle.carv_scheduler.specs.Laws.SoundBridge.{asked_size, asked_registry, asked}
 use Rattle.carv_scheduler.proofs.sound.is_sound.Goals as goal

@@ -1,7 +1,6 @@
 -- `carv_scheduler::sound::parts_are_sound` meets its contract. Assumes nothing.
-use Rattle.std.proofs.Common.{arith, rules}
+use Rattle.std.proofs.Common.{arith}
 use mathlib.Core.Bool.{false≢true}
-use borrow.Author.Tests.{not-true, not-false}
 use Rattle.carv_scheduler.specs.Area.{threads_part, queue_part, exits_part}
 use Rattle.carv_scheduler.specs.Laws.AreaSteps.{length_threads, length_queue}
 use Rattle.carv_scheduler.specs.Laws.ExitSteps.{length_exits}

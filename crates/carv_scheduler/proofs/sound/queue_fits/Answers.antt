@@ -1,9 +1,7 @@
 -- `carv_scheduler::sound::queue_fits` meets its contract. The loop's invariant: the first j ids are walked. Assumes nothing.
-use Rattle.std.proofs.Common.{◌≡◌, ◌-◌, ◌≤◌, get_or, true≢false, arith, rules}
+use Rattle.std.proofs.Common.{◌≡◌, get_or, true≢false, arith}
 use mathlib.Core.Bool.{false≢true}
-use borrow.Author.Tests.{not-true, not-false}
 use Rattle.carv_area.specs.Words.{words}
-use Rattle.carv_scheduler.specs.Laws.SoundWalk.{Walk}
 use Rattle.carv_scheduler.proofs.sound.queue_fits.Goals as goal
 
 pub loop-j-init : goal.loop-j-init

@@ -1,7 +1,5 @@
 -- `carv_scheduler::sound::queue_fits` meets its contract. The loop's invariant: the first j ids are walked. Assumes nothing.
-use Rattle.std.proofs.Common.{◌≡◌, ◌-◌, ◌≤◌, get_or, true≢false, arith, rules}
-use mathlib.Core.Bool.{false≢true}
-use borrow.Author.Tests.{not-true, not-false}
+use Rattle.std.proofs.Common.{◌-◌, ◌≤◌}
 use Rattle.carv_area.specs.Words.{words}
 use Rattle.carv_scheduler.specs.Laws.SoundWalk.{Walk}
 use Rattle.carv_scheduler.proofs.sound.queue_fits.Given as goal

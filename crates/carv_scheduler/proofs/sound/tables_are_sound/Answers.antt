@@ -1,7 +1,6 @@
 -- `carv_scheduler::sound::tables_are_sound` meets its contract. Assumes nothing.
-use Rattle.std.proofs.Common.{sym, ◌∙◌, arith, rules}
+use Rattle.std.proofs.Common.{sym, ◌∙◌, arith}
 use mathlib.Core.Bool.{false≢true}
-use borrow.Author.Tests.{not-true, not-false}
 use Rattle.carv_area.specs.Words.{words}
 use Rattle.carv_scheduler.specs.Laws.SoundRows.{behind_queue}
 use Rattle.carv_scheduler.proofs.sound.tables_are_sound.Goals as goal

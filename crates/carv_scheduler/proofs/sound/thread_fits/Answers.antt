@@ -1,6 +1,4 @@
 -- `carv_scheduler::sound::thread_fits` meets its contract. Assumes nothing.
-use Rattle.std.proofs.Common.{rules}
-use borrow.Author.Tests.{not-true, not-false}
 use mathlib.Core.Bool.{false≢true}
 use Rattle.carv_area.specs.Words.{words}
 use Rattle.carv_scheduler.specs.Laws.SoundThread.{no_state, no_wait, no_budget, space_tells}

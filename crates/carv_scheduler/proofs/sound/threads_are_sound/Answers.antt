@@ -1,7 +1,6 @@
 -- `carv_scheduler::sound::threads_are_sound` meets its contract. Assumes nothing.
 use Rattle.std.proofs.Common.{arith, rules}
 use mathlib.Core.Bool.{false≢true}
-use borrow.Author.Tests.{not-true, not-false}
 use Rattle.carv_area.specs.Words.{words}
 use Rattle.carv_scheduler.specs.Laws.SoundRows.{ordered_keyed}
 use Rattle.carv_scheduler.specs.Laws.SoundQueue.{walk_none, walk_sound, fit_out, fit_in}

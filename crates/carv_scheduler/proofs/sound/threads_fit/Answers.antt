@@ -1,9 +1,8 @@
 -- `carv_scheduler::sound::threads_fit` meets its contract. The loop's invariant: the threads below place i are in order. Assumes nothing.
-use Rattle.std.proofs.Common.{ℕ, ◌-◌, ◌≤◌, eqb, get_or, true≢false, arith, rules}
+use Rattle.std.proofs.Common.{ℕ, eqb, get_or, true≢false, arith}
 use mathlib.Core.Bool.{false≢true}
-use borrow.Author.Tests.{not-true, not-false}
 use Rattle.carv_area.specs.Words.{words}
-use Rattle.carv_scheduler.specs.Laws.SoundWalk.{Fits, Fit}
+use Rattle.carv_scheduler.specs.Laws.SoundWalk.{Fits}
 use Rattle.carv_scheduler.specs.Laws.SoundRows.{one_more}
 use Rattle.carv_scheduler.proofs.sound.threads_fit.Goals as goal
 

@@ -1,5 +1,4 @@
 -- `carv_scheduler::sound::wait_fits` meets its contract. Assumes nothing.
-use Rattle.std.proofs.Common.{rules}
 use Rattle.carv_scheduler.specs.Laws.SoundThread.{wait_blocked, wait_kind, wait_number}
 use Rattle.carv_scheduler.proofs.sound.wait_fits.Goals as goal
 

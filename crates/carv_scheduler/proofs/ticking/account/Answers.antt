@@ -1,5 +1,5 @@
 -- `carv_scheduler::ticking::account` meets its contract. Assumes nothing.
-use Rattle.std.proofs.Common.{arith, rules}
+use Rattle.std.proofs.Common.{arith}
 use Rattle.carv_scheduler.specs.Laws.AreaLaws.{area_formed}
 use Rattle.carv_scheduler.specs.Laws.Places.{found_here, found_gone}
 use Rattle.carv_scheduler.specs.Laws.Ticking.{account_gone, account_free, account_paid}

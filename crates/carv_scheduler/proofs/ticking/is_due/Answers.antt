@@ -1,5 +1,5 @@
 -- `carv_scheduler::ticking::is_due` meets its contract. Assumes nothing.
-use Rattle.std.proofs.Common.{get_or, arith, rules}
+use Rattle.std.proofs.Common.{get_or, arith}
 use Rattle.carv_scheduler.specs.Laws.Rows.{no_row}
 use Rattle.carv_scheduler.specs.Laws.Waking.{not_blocked, not_asleep, not_yet, due_now}
 use Rattle.carv_scheduler.specs.Area.{decode}

@@ -1,5 +1,5 @@
 -- `carv_scheduler::ticking::tick` meets its contract. Assumes nothing.
-use Rattle.std.proofs.Common.{arith, rules}
+use Rattle.std.proofs.Common.{arith}
 use Rattle.carv_scheduler_spec.specs.Scheduler.{tick}
 use Rattle.carv_scheduler.specs.Laws.Calls.{refused}
 use Rattle.carv_scheduler.specs.Laws.Ticking.{tick_late, ticks}

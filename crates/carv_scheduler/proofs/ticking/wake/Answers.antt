@@ -1,5 +1,5 @@
 -- `carv_scheduler::ticking::wake` meets its contract. Assumes nothing.
-use Rattle.std.proofs.Common.{arith, rules}
+use Rattle.std.proofs.Common.{arith}
 use Rattle.carv_scheduler.specs.Laws.AreaLaws.{area_formed}
 use Rattle.carv_scheduler.specs.Laws.Places.{found_here, found_gone}
 use Rattle.carv_scheduler.specs.Laws.Waking.{here_blocked, wake_gone, wake_other, wake_serves}

@@ -1,6 +1,5 @@
 -- `carv_scheduler::ticking::wake_at` meets its contract. Assumes nothing.
-use Rattle.std.proofs.Common.{sym, ◌∙◌, rules}
-use borrow.Author.Tests.{not-true, not-false}
+use Rattle.std.proofs.Common.{sym, ◌∙◌}
 use Rattle.carv_scheduler.specs.Laws.AreaLaws.{area_formed}
 use Rattle.carv_scheduler.specs.Laws.Waking.{not_due, due_here, due_wakes}
 use Rattle.carv_scheduler.proofs.ticking.wake_at.Goals as goal

@@ -1,8 +1,7 @@
 -- `carv_scheduler::ticking::wake_sleepers` meets its contract. The loop's invariant: waking the threads from place i on gives the whole. The measure is the number
 -- of places left. Assumes nothing.
-use Rattle.std.proofs.Common.{◌-◌, sym, ◌∙◌, rules}
-use Rattle.carv_scheduler.specs.Laws.AreaLaws.{area_formed}
-use Rattle.carv_scheduler.specs.Laws.Waking.{Waking, waking_starts, waking_place, waking_on, waking_ends}
+use Rattle.std.proofs.Common.{◌-◌}
+use Rattle.carv_scheduler.specs.Laws.Waking.{Waking}
 use Rattle.carv_scheduler.proofs.ticking.wake_sleepers.Given as goal
 
 abbrev pub invariant-loop-i : goal.invariant-loop-i

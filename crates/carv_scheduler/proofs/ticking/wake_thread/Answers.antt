@@ -1,5 +1,4 @@
 -- `carv_scheduler::ticking::wake_thread` meets its contract. Assumes nothing.
-use Rattle.std.proofs.Common.{rules}
 use Rattle.carv_scheduler.specs.Laws.AreaLaws.{area_formed}
 use Rattle.carv_scheduler.specs.Laws.Waking.{wake_room, wakes}
 use Rattle.carv_scheduler.proofs.ticking.wake_thread.Goals as goal
