@@ -1,6 +1,6 @@
 -- Demand 2 for accounts alone: for every list of operations, each child returned to its own parent, every answer and every account are the Rust's after each
 -- operation, and no refusal is added. The lent forms answer and leave the same. Assumes nothing.
-use Rattle.std.specs.Prelude.{◌≡◌, refl, Bool, true, false, cond, List, [], ◌∷◌, map, ℕ, zero, suc, set}
+use Rattle.std.specs.Prelude.{◌≡◌, refl, Bool, true, false, List, [], ◌∷◌, map, ℕ, zero, suc, set}
 use Rattle.std.proofs.Common.{ap, ◌∙◌, sym, eq-eqb}
 use Rattle.std.proofs.Math.Option.{Option, none, some}
 use Rattle.std.proofs.lemmas.List.{map-append}
@@ -16,8 +16,8 @@ use Rattle.carv_budget.specs.Rust as rust
 use Rattle.carv_budget.specs.Rust.{BudgetError, zero_period, cpu_budget_exceeds_period, cpu_limit_exceeded, memory_limit_exceeded, memory_limit_reached, memory_underflow, reservation_underflow, Result, ok, err}
 use Rattle.carv_budget.specs.Replies.{error, answer, renewal, charged, opening_of, refill_of, charge_of, outcome_of, carve_out_of}
 use Rattle.carv_budget.specs.Runs.{Operation, open_account, refill, charge_cpu, charge_memory, release_memory, carve_out, release_child, Places, at, put, take, add, Reply, answered, Budget, budget, accepted, opened, changed, carved, carved_from, returned, returned_to, run, rust_opened, rust_changed, rust_carved, rust_carved_from, rust_returned, rust_returned_to, rust_run, replies, rust_replies, after, seen, all_seen, reply_seen, is_own, returns_own, AllReturnOwn, is_added, NoneAdded, AllSound}
-use Rattle.carv_budget.proofs.Laws.Account as laws
 use Rattle.carv_budget.proofs.Laws.Refines as refines
+use Rattle.carv_budget.proofs.Laws.RunsSound.{SoundAt, at_sound, run_kept, kept}
 
 -- Places with and without identities.
 
@@ -34,71 +34,8 @@ add_seen t b = sym (map-append seen t (some b ∷ []))
 
 -- Soundness, place by place.
 
-abbrev SoundAt : Option Account → Type 0
-SoundAt none = Unit {0}
-SoundAt (some a) = sound a ≡ true
-
-at_sound : (t : Places Account) (i : ℕ) → AllSound t → SoundAt (at t i)
-at_sound [] i s = tt
-at_sound (none ∷ t) zero s = tt
-at_sound (some a ∷ t) zero s = s.0
-at_sound (none ∷ t) (suc i) s = at_sound t i s
-at_sound (some a ∷ t) (suc i) s = at_sound t i s.1
-
 seen_sound : (t : Places Budget) (i : ℕ) → AllSound (all_seen t) → SoundAt (seen (at t i))
 seen_sound t i s = rw (at_seen t i) at (at_sound (all_seen t) i s)
-
-set_sound : (t : Places Account) (i : ℕ) (x : Option Account) → AllSound t → SoundAt x → AllSound (set t i x)
-set_sound [] i x s p = s
-set_sound (none ∷ t) zero none s p = s
-set_sound (none ∷ t) zero (some b) s p = (p, s)
-set_sound (some a ∷ t) zero none s p = s.1
-set_sound (some a ∷ t) zero (some b) s p = (p, s.1)
-set_sound (none ∷ t) (suc i) x s p = set_sound t i x s p
-set_sound (some a ∷ t) (suc i) x s p = (s.0, set_sound t i x s.1 p)
-
-add_sound : (t : Places Account) (a : Account) → AllSound t → sound a ≡ true → AllSound (add a t)
-add_sound [] a s p = (p, tt)
-add_sound (none ∷ t) a s p = add_sound t a s p
-add_sound (some b ∷ t) a s p = (s.0, add_sound t a s.1 p)
-
--- Every operation leaves sound accounts, on whatever sound ones.
-
-changed_kept : (i : ℕ) (f : Account → Outcome) → ((a : Account) → sound a ≡ true → sound (f a).account ≡ true) → (x : Option Account) (t : Places Account)
-    → SoundAt x → AllSound t → AllSound (changed i f x t).after
-changed_kept i f h none t p s = s
-changed_kept i f h (some a) t p s = set_sound t i (some (f a).account) s (h a p)
-
-carved_kept : (i cpu memory time : ℕ) (x : Option Account) (t : Places Account) → SoundAt x → AllSound t → AllSound (carved_from i cpu memory time x t).after
-carved_kept i cpu memory time none t p s = s
-carved_kept i cpu memory time (some a) t p s =
-    let r : CarveOut = account.carve_out a cpu memory time in
-    let k : laws.BothSound r = laws.carve_out_kept a cpu memory time p in
-    let parent : AllSound (put i r.parent t) = set_sound t i (some r.parent) s k.parent in
-    laws.picks AllSound (accepted r.answer) _ _ (λ _. add_sound (put i r.parent t) r.child parent k.child) (λ _. parent)
-
-returned_kept : (i child : ℕ) (x y : Option Account) (t : Places Account) → SoundAt x → AllSound t → AllSound (returned_to i child x y t).after
-returned_kept i child none y t p s = s
-returned_kept i child (some a) none t p s = s
-returned_kept i child (some a) (some c) t p s =
-    let r : Outcome = account.release_child a c in
-    set_sound (cond (accepted r.answer) (take child t) t) i (some r.account)
-    (laws.picks AllSound (accepted r.answer) _ _ (λ _. set_sound t child none s tt) (λ _. s)) (laws.release_child_kept a c p)
-
-pub run_kept : (o : Operation) (t : Places Account) → AllSound t → AllSound (run o t).after
-run_kept (open_account cpu memory time) t s =
-    let r : Outcome = account.open_account cpu memory time in
-    laws.picks AllSound (accepted r.answer) _ _ (λ _. add_sound t r.account s (laws.open_account_kept cpu memory time)) (λ _. s)
-run_kept (refill i time) t s = changed_kept i _ (λ a. laws.refill_kept a time) (at t i) t (at_sound t i s) s
-run_kept (charge_cpu i ns time) t s = changed_kept i _ (λ a. laws.charge_cpu_kept a ns time) (at t i) t (at_sound t i s) s
-run_kept (charge_memory i bytes) t s = changed_kept i _ (λ a. laws.charge_memory_kept a bytes) (at t i) t (at_sound t i s) s
-run_kept (release_memory i bytes) t s = changed_kept i _ (λ a. laws.release_memory_kept a bytes) (at t i) t (at_sound t i s) s
-run_kept (carve_out i cpu memory time) t s = carved_kept i cpu memory time (at t i) t (at_sound t i s) s
-run_kept (release_child i child) t s = returned_kept i child (at t i) (at t child) t (at_sound t i s) s
-
-pub kept : (os : List Operation) (t : Places Account) → AllSound t → AllSound (after os t)
-kept [] t s = s
-kept (o ∷ os) t s = kept os (run o t).after (run_kept o t s)
 
 -- from none held
 pub all_sound : (os : List Operation) → AllSound (after os [])
