@@ -1,12 +1,12 @@
 /*
  * The board of Joekwind in C: budgets, objects, threads, ready queue and exit log, in bytes that
- * the caller lends. `rt staticlib carv` writes the library for x86-64 Linux,
+ * the caller lends. `tools/library` proves it and writes the library for x86-64 Linux,
  * target/staticlib/libcarv.a.
  *
- * docs/LAYOUT.md has the area byte by byte. The functions stand in crates/carv/src/lib.rt;
- * specs/C.antt there, specs/Area.antt, specs/Creating.antt and specs/Image.antt of
- * crates/carv_scheduler, and specs/Image.antt of crates/carv_register_image, say what each is
- * proved to return and to leave.
+ * docs/LAYOUT.md has the area byte by byte. The functions stand in crates/carv_c/src/lib.rt, each
+ * by that of crates/carv of the same name; specs/C.antt there, specs/Area.antt, specs/Creating.antt
+ * and specs/Image.antt of crates/carv_scheduler, and specs/Image.antt of crates/carv_register_image,
+ * say what each is proved to return and to leave.
  *
  * What is lent
  *
@@ -47,8 +47,8 @@
  * figure of each function. Nothing calls itself, and nothing is written below the stack pointer:
  * there is no red zone.
  *
- * Of the C library only memmove and memset are called. A kernel brings its own; the stack that they
- * take comes on top.
+ * Of the C library only memcpy, memmove and memset are called. A kernel brings its own; the stack that
+ * they take comes on top.
  *
  * The library uses the SSE registers and leaves them changed, as C's calling convention allows. It
  * uses no x87, MMX or AVX register. A kernel that calls from an interrupt saves the SSE registers

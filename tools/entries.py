@@ -4,18 +4,19 @@
     tools/entries.py ENTRY_ANSWERS C_ANSWERS
     tools/entries.py --check
 
-The first writes the entry points of carv_scheduler (src/lib.rt) and the C functions of carv (src/lib.rt), for the calls listed below, and the
-answers by which tools/prove.py proves them. In both files everything from the marker line to the end is replaced; what stands above it
-is kept. A call: name, parameters after the area, definition, module of the inner function, does it only read, comment. Parameters
-of a struct's type are numbers in the C function.
+The first writes the entry points of carv_scheduler (src/lib.rt), the functions of carv (src/lib.rt) and the C functions of carv_c
+(src/lib.rt), for the calls listed below, and the answers by which tools/prove.py proves the first two. In carv_scheduler and carv
+everything from the marker line to the end is replaced, in carv_c everything from its first C function on; what stands above is kept, and
+so are lines #[tactic(..)] of a function. A call: name, parameters after the area, definition, module of the inner function, does it only
+read, comment. Parameters of a struct's type are numbers in carv.
 
-The second writes nothing. It prints each function below a marker that is not as it would be written, is missing or too much, and
-each of these disagreements between the C functions and `Ensures` in carv/specs/C.antt:
+The second writes nothing. It prints each function below a marker, and each of carv_c, that is not as it would be written, is missing or
+too much, and each of these disagreements between the functions of carv and `Ensures` in carv/specs/C.antt:
 
-    a constructor of a `Call` (Book.antt of carv_objects_spec, carv_scheduler_spec) without a C function, or with more than one
-    a C function of the list whose `ensures` isn't `Exported` of the constructor that the list names
-    `ExportedWithImage`, or true by `has-image`, of another call than `carv_create_user_thread`'s, which is written by hand
-    another C function without `Exported`; carv_open, carv_image and carv_is_sound have contracts of their own
+    a constructor of a `Call` (Book.antt of carv_objects_spec, carv_scheduler_spec) without a function, or with more than one
+    a function of the list whose `ensures` isn't `Exported` of the constructor that the list names
+    `ExportedWithImage`, or true by `has_image`, of another call than `carv_create_user_thread`'s, which is written by hand
+    another function without `Exported`; carv_open, carv_image and carv_is_sound have contracts of their own
 
 Exit status: 0 if there is none, else 1.
 """
@@ -28,30 +29,30 @@ ROOT = pathlib.Path(__file__).resolve().parent.parent
 REGISTRY, CALLS = 'registry', [
     ('create', 'kind: u64, payer: u64, backing: bool', 'create', 'registry', False, 'A new object of this kind.'),
     ('insert', 'kind: u64, payer: u64, bytes: u64', 'insert', 'registry', False, 'An object of this kind that takes this many bytes.'),
-    ('create_budget', 'parent: u64, cpu: u64, memory: u64, time: u64', 'create-budget', 'registry', False, 'A budget carved out of its parent.'),
-    ('charge_more', 'id: u64, bytes: u64', 'charge-more', 'registry', False, 'More bytes charged for an object.'),
+    ('create_budget', 'parent: u64, cpu: u64, memory: u64, time: u64', 'create_budget', 'registry', False, 'A budget carved out of its parent.'),
+    ('charge_more', 'id: u64, bytes: u64', 'charge_more', 'registry', False, 'More bytes charged for an object.'),
     ('uncharge', 'id: u64, bytes: u64', 'uncharge', 'registry', False, 'Bytes of an object credited.'),
     ('remove', 'id: u64, time: u64', 'remove', 'registry', False, "An object taken out; a removed budget's payer is renewed at this time, before the child is returned."),
     ('refill', 'id: u64, time: u64', 'refill', 'registry', False, 'The renewal of a budget.'),
-    ('charge_cpu', 'id: u64, ns: u64, time: u64', 'charge-cpu', 'registry', False, 'CPU time charged to a budget.'),
-    ('pays_for_anything', 'id: u64', 'pays-for-anything', 'registry', True, 'Does another object have this payer?'),
-    ('account', 'id: u64', 'read-account', 'registry', True, 'The account of a budget.'),
-    ('charge_of', 'id: u64', 'charge-of', 'registry', True, 'The payer and the charge of an object.'),
-    ('totals', 'id: u64', 'read-totals', 'registry', True, 'A budget with all below it, summed.'),
+    ('charge_cpu', 'id: u64, ns: u64, time: u64', 'charge_cpu', 'registry', False, 'CPU time charged to a budget.'),
+    ('pays_for_anything', 'id: u64', 'pays_for_anything', 'registry', True, 'Does another object have this payer?'),
+    ('account', 'id: u64', 'read_account', 'registry', True, 'The account of a budget.'),
+    ('charge_of', 'id: u64', 'charge_of', 'registry', True, 'The payer and the charge of an object.'),
+    ('totals', 'id: u64', 'read_totals', 'registry', True, 'A budget with all below it, summed.'),
     ('start', 'id: u64, space: u64, cspace: u64, root: u64, context: Context', 'start', 'calls', False, 'An Inactive thread is Ready.'),
-    ('block_current', 'kind: u64, number: u64', 'block-current', 'calls', False, 'The current thread is Blocked on this wait.'),
+    ('block_current', 'kind: u64, number: u64', 'block_current', 'calls', False, 'The current thread is Blocked on this wait.'),
     ('wake', 'id: u64, results: Results', 'wake', 'ticking', False, 'A Blocked thread is Ready, with these results.'),
-    ('is_blocked_on', 'id: u64, kind: u64, number: u64', 'is-blocked-on', 'calls', True, 'Is this thread Blocked on this wait?'),
+    ('is_blocked_on', 'id: u64, kind: u64, number: u64', 'is_blocked_on', 'calls', True, 'Is this thread Blocked on this wait?'),
     ('kill', 'id: u64, cause: u64', 'kill', 'killing', False, 'A thread ends.'),
     ('tick', 'n: u64', 'tick', 'ticking', False, 'The timer tick n.'),
     ('plan', 'n: u64', 'plan', 'planning', False, 'The thread to run at tick n.'),
-    ('read_thread', 'id: u64', 'read-thread', 'calls', True, "A thread's record."),
-    ('current', '', 'read-current', 'calls', True, 'The current thread.'),
-    ('switches', '', 'read-switches', 'calls', True, 'How many context switches there were.'),
-    ('exit_of', 'id: u64', 'exit-of', 'exits', True, 'Why a thread ended, by the exit log.'),
+    ('read_thread', 'id: u64', 'read_thread', 'calls', True, "A thread's record."),
+    ('current', '', 'read_current', 'calls', True, 'The current thread.'),
+    ('switches', '', 'read_switches', 'calls', True, 'How many context switches there were.'),
+    ('exit_of', 'id: u64', 'exit_of', 'exits', True, 'Why a thread ended, by the exit log.'),
 ]
 # Where a registry call's definition stands, if not in Registry.antt.
-FILES = {'read-totals': 'Totals'}
+FILES = {'read_totals': 'Totals'}
 STRUCTS = {
     'Context': ['rip', 'rsp', 'rflags', 'rdi', 'rsi', 'cs', 'ss'],
     'Results': ['first', 'second', 'third'],
@@ -59,9 +60,10 @@ STRUCTS = {
 WRITTEN = '// Written by tools/entries.py from its list of calls; what stands below this line is replaced.\n'
 LIB_MARK = '// The calls, each with question 1 in front.\n' + WRITTEN
 C_MARK = '// The calls.\n' + WRITTEN
-# The C functions written by hand: the one that is lent an image, and the contracts of the others.
-WITH_IMAGE = ('carv_create_user_thread', 'create-user-thread')
-OWN = {'carv_open': 'Opens ', 'carv_image': 'Filled ', 'carv_is_sound': 'r ≡ sound-area '}
+EXPORT = '#[unsafe(no_mangle)]\npub extern "C" fn '
+# The functions of carv written by hand: the one that is lent an image, and the contracts of the others.
+WITH_IMAGE = ('carv_create_user_thread', 'create_user_thread')
+OWN = {'carv_open': 'Opens ', 'carv_image': 'Filled ', 'carv_is_sound': 'result ≡ sound_area '}
 
 
 def signature(head, params, result):
@@ -85,23 +87,25 @@ def argument(term):
 def entry(name, params, definition, module, reading, comment):
     names = [p.split(':')[0] for p in params]
     call = ' '.join([definition] + names)
-    spec = 'by-registry (%s)' % call if module == REGISTRY else call
-    left = 'entry' if reading else 'exit'
+    spec = 'by_registry (%s)' % call if module == REGISTRY else call
+    before, left = ('now', 'now') if reading else ('old', 'new')
     text = '\n// %s\n' % comment
     text += signature('pub fn ' + name, ['area: &[u8]' if reading else 'area: &mut [u8]'] + params, 'Answer')
-    text += '    ensures { λ r. ⌜ Answered %s (now (area .entry)) r (now (area .%s)) ⌝ }\n' % (argument(spec), left)
+    text += '    ensures { Answered %s area.%s result area.%s }\n' % (argument(spec), before, left)
     text += '{\n    if !is_sound(area) {\n        return Answer::Refused(refused::UNSOUND);\n    }\n'
     inner = '%s::%s(%s)' % (module, name, ', '.join(['area'] + names))
     text += '    let answer = %s;\n    Answer::Registry(answer)\n}\n' % inner if module == REGISTRY else '    %s\n}\n' % inner
-    place = name.replace('_', '-')
-    answers = '== %s\nuse Rattle·carv_scheduler·specs.specs.laws.Entry.{entry-refused, entry-sound, entry-served}\n' % name
-    served = '@%s .ensures' % place
+    place = name + '-answer' if module == REGISTRY else name
+    answers = '== %s\nuse Rattle.carv_scheduler.specs.Laws.Entry.{entry_refused, entry_sound, entry_served}\n' % name
+    answers += 'use mathlib.Core.Path.{ap}\nuse mathlib.Core.Bool.{not}\n'
+    served = '@%s.ensures' % place
     if module == REGISTRY:
-        answers += 'use Rattle·carv_scheduler·specs.specs.laws.OnRegistry.{registry-serves}\nuse Rattle·carv_objects_spec.specs.%s.{%s}\n' % (FILES.get(definition, 'Registry'), definition)
-        served = 'registry-serves (%s) _ _ _ (%s)' % (' '.join([definition] + ['%' + n for n in names]), served)
-    answers += 'returns := entry-refused _ _ _ (@is-sound .ensures) (@if1 .taken)\n'
-    answers += '%s-requires := entry-sound _ _ (@is-sound .ensures) (@if1 .left)\n' % place
-    answers += 'returns-2 := entry-served _ _ _ (@is-sound .ensures) (@if1 .left) _ _ (%s)\n' % served
+        answers += 'use Rattle.carv_scheduler.specs.Laws.OnRegistry.{registry_serves}\nuse Rattle.carv_objects_spec.specs.%s.{%s}\n' % (FILES.get(definition, 'Registry'), definition)
+        served = 'registry_serves (%s) _ _ _ %s' % (' '.join([definition] + ['%' + n for n in names]), served)
+        served = '(%s)' % served
+    answers += 'returns-then-not-is_sound := entry_refused _ _ _ @is_sound.ensures (ap not @if-not-is_sound.true)\n'
+    answers += '%s-requires := entry_sound _ _ @is_sound.ensures (ap not @if-not-is_sound.false)\n' % place
+    answers += 'returns := entry_served _ _ _ @is_sound.ensures (ap not @if-not-is_sound.false) _ _ %s\n' % served
     return text, answers
 
 
@@ -119,19 +123,27 @@ def c_function(name, params, definition, module, reading, comment):
             numbers.append(p)
             terms.append(n)
     call = ' '.join([definition] + terms)
-    spec = 'on-objects (objects.%s)' % call if module == REGISTRY else call
-    left = 'entry' if reading else 'exit'
-    text = '\n#[no_mangle]\n'
-    text += signature('pub extern "C" fn carv_' + name, ['area: &[u8]' if reading else 'area: &mut [u8]'] + numbers + ['out: &mut [u64]'], 'u64')
-    text += '    ensures { λ r. ⌜ Exported %s (now (area .entry)) (now (out .entry)) r (now (area .%s)) (now (out .exit)) ⌝ }\n' % (argument(spec), left)
+    spec = 'on_objects (objects.%s)' % call if module == REGISTRY else call
+    before, left = ('now', 'now') if reading else ('old', 'new')
+    text = '\n' + signature('pub fn carv_' + name, ['area: &[u8]' if reading else 'area: &mut [u8]'] + numbers + ['out: &mut [u64]'], 'u64')
+    text += '    ensures { Exported %s area.%s out.old result area.%s out.new }\n' % (argument(spec), before, left)
     text += '{\n    if out.len() != WORDS {\n        return refused::UNSOUND;\n    }\n' + made
     text += '    let answer = carv_scheduler::%s(%s);\n    report(answer, out)\n}\n' % (name, ', '.join(['area'] + given))
-    place = name.replace('_', '-')
-    answers = '== carv_%s\nuse Rattle·carv·specs.specs.laws.Reporting.{returned-one, returned}\n' % name
-    answers += 'returns := returned-one _ _ _ (@if1 .taken)\n'
-    answers += 'report-requires := @if1 .left\n'
-    answers += 'returns-2 := returned _ _ _ (@if1 .left) _ _ (@%s .ensures) _ _ (@report .ensures)\n' % place
+    answers = '== carv_%s\nuse Rattle.carv.proofs.Laws.Reporting.{returned_one, returned}\n' % name
+    answers += 'returns-then-out-ne-WORDS := returned_one _ _ _ @if-out-ne-WORDS.true\n'
+    answers += 'report-requires := @if-out-ne-WORDS.false\n'
+    answers += 'returns := returned _ _ _ @if-out-ne-WORDS.false _ _ @%s-answer.ensures _ _ @report.ensures\n' % name
     return text, answers
+
+
+def export(piece):
+    """The C function of a function of carv: the same clauses, and a call of it."""
+    name, params, result, clauses = re.search(r'(?ms)^pub fn (\w+)\((.*?)\) -> (\w+)\n(.*?)^\{\n', piece).groups()
+    params = [p.strip() for p in params.strip().rstrip(',').split(',')]
+    head, rest = EXPORT.rsplit('\n', 1)
+    given = ', '.join(p.split(':')[0] for p in params)
+    call = 'carv::%s(%s)' % (name, given if len(given) <= 60 else '\n        %s,\n    ' % given)
+    return '\n%s\n%s%s{\n    %s\n}\n' % (head, signature(rest + name, params, result), clauses, call)
 
 
 def generated(crate, mark, make):
@@ -149,13 +161,21 @@ def functions(text):
     return [((re.search(r'(?m)^(?:pub )?(?:extern "C" )?fn (\w+)', piece) or [None, ''])[1], piece) for piece in pieces]
 
 
-def differences(crate, mark, make):
+TACTIC = re.compile(r'(?m)^#\[tactic\(.*\)\]\n')
+
+
+def with_tactics(written, below):
+    """The text that is written, with the lines #[tactic(..)] of the functions that stand there."""
+    kept = {name: TACTIC.findall(piece) for name, piece in functions(below)}
+    return ''.join(re.sub(r'(?m)^(?=pub )', ''.join(kept.get(name, [])), piece, count=1) for name, piece in functions(written))
+
+
+def differences(path, below, wanted):
     """What stands below the marker line and isn't what would be written."""
-    path, _, below, made = generated(crate, mark, make)
     where, there = path.relative_to(ROOT), collections.defaultdict(list)
     for name, piece in functions(below):
-        there[name].append(piece)
-    wanted = dict(functions(''.join(text for text, _ in made)))
+        there[name].append(TACTIC.sub('', piece))
+    wanted = dict(functions(wanted))
     for name, piece in wanted.items():
         if name not in there:
             yield '%s: %s: missing' % (where, name)
@@ -170,6 +190,15 @@ def differences(crate, mark, make):
         yield '%s: not in the order of the list' % where
 
 
+def exports(code):
+    """The file of the C functions, its text above the first of them, below, and what is written below for carv's code."""
+    path = ROOT / 'crates/carv_c/src/lib.rt'
+    above, found, below = path.read_text().partition('\n' + EXPORT)
+    if not found:
+        sys.exit('%s: no C function' % path)
+    return path, above, found + below, ''.join(export(piece) for name, piece in functions(code) if re.search(r'(?m)^pub fn carv_', piece))
+
+
 def constructors():
     """The calls: constructors of both `Call`s, those of the registry with the name in front by which the contracts cite it."""
     found = []
@@ -178,21 +207,21 @@ def constructors():
         cases = re.search(r'(?m)^pub data Call : Type 0 where\n((?:  .*\n)+)', text)
         if not cases:
             sys.exit('%s/specs/Book.antt: no `data Call`' % crate)
-        found += [front + name for name in re.findall(r'(?m)^  ([^ ]+) :', cases[1]) if name != 'on-objects']
+        found += [front + name for name in re.findall(r'(?m)^  ([^ ]+) :', cases[1]) if name != 'on_objects']
     return found
 
 
 def contracts():
-    """Each C function with its `ensures`, its predicate and the call that this is said of, None for another contract."""
+    """Each function of carv with its `ensures`, its predicate and the call that this is said of, None for another contract."""
     for name, piece in functions((ROOT / 'crates/carv/src/lib.rt').read_text()):
-        if 'extern "C"' in piece:
-            ensures = (re.search(r'ensures \{ λ r\. ⌜ (.*) ⌝ \}', piece) or [None, ''])[1]
-            said = re.match(r'(Exported|ExportedWithImage) \(?(?:on-objects \()?([^ ()]+)', ensures)
+        if re.search(r'(?m)^pub fn ', piece):
+            ensures = (re.search(r'(?m)^    ensures \{ (.*) \}$', piece) or [None, ''])[1]
+            said = re.match(r'(Exported|ExportedWithImage) \(?(?:on_objects \()?([^ ()]+)', ensures)
             yield name, ensures, said and said[1], said and said[2]
 
 
 def disagreements():
-    """Where C functions, the list, the constructors of `Call` and `has-image` don't agree."""
+    """Where the functions of carv, the list, the constructors of `Call` and `has_image` don't agree."""
     calls, found = constructors(), list(contracts())
     listed = {'carv_' + name: ('Exported', ('objects.' if module == REGISTRY else '') + definition) for name, _, definition, module, *_ in CALLS}
     listed[WITH_IMAGE[0]] = ('ExportedWithImage', WITH_IMAGE[1])
@@ -216,13 +245,18 @@ def disagreements():
         if len(names := [f[0] for f in found if f[3] == call]) != 1:
             yield 'call %s: %s' % (call, 'no C function' if not names else 'more than one C function: ' + ', '.join(names))
     demands = (ROOT / 'crates/carv/specs/C.antt').read_text()
-    image = re.findall(r'(?m)^has-image \(?([^ ()]+).* = true$', demands)
+    image = re.findall(r'(?m)^has_image \(?([^ ()]+).* = true$', demands)
     if image != [WITH_IMAGE[1]]:
-        yield 'has-image: true of %s, not of %s alone' % (', '.join(image) or 'no call', WITH_IMAGE[1])
+        yield 'has_image: true of %s, not of %s alone' % (', '.join(image) or 'no call', WITH_IMAGE[1])
 
 
 def check():
-    found = [*differences('carv_scheduler', LIB_MARK, entry), *differences('carv', C_MARK, c_function), *disagreements()]
+    found = []
+    for crate, mark, make in (('carv_scheduler', LIB_MARK, entry), ('carv', C_MARK, c_function)):
+        path, _, below, made = generated(crate, mark, make)
+        found += differences(path, below, ''.join(text for text, _ in made))
+    path, _, below, written = exports((ROOT / 'crates/carv/src/lib.rt').read_text())
+    found += [*differences(path, below, written), *disagreements()]
     print(''.join(line + '\n' for line in found) + '%d calls, %d differences' % (len(constructors()), len(found)))
     return 1 if found else 0
 
@@ -233,9 +267,11 @@ def main():
     if len(sys.argv) != 3:
         sys.exit(__doc__)
     for crate, mark, make, out in (('carv_scheduler', LIB_MARK, entry, sys.argv[1]), ('carv', C_MARK, c_function, sys.argv[2])):
-        path, above, _, made = generated(crate, mark, make)
-        path.write_text(above + mark + ''.join(text for text, _ in made))
+        path, above, below, made = generated(crate, mark, make)
+        path.write_text(above + mark + with_tactics(''.join(text for text, _ in made), below))
         pathlib.Path(out).write_text(''.join(told for _, told in made))
+    path, above, below, written = exports((ROOT / 'crates/carv/src/lib.rt').read_text())
+    path.write_text(above + with_tactics(written, below))
     return 0
 
 

@@ -6,11 +6,12 @@
 ROOT is the repository, by default the folder above tools/. Exit status: 0 if nothing is missing, else 1. Read are the backticked
 names from the section "Demands" on; the columns "01 says" and "02 says" are left out, as they have the Rust's names. Looked up are
 
-    File.name, scheduler/File.name     in specs/ or specs/laws/, File.antt of carv_objects_spec or carv_objects, carv_scheduler_spec or carv_scheduler; so are
-                                       names in brackets
-    carv/File.name                     in specs/File.antt of carv; register_image/File.name in that of carv_register_image
+    File.name, scheduler/File.name     in specs/ or Laws/ (of specs/ or proofs/), File.antt of carv_objects_spec or carv_objects, carv_scheduler_spec or
+                                       carv_scheduler; so are names in brackets
+    carv/File.name                     in such a file of carv; register_image/File.name in that of carv_register_image
     scheduler/File, carv/File, register_image/File     that there is such a file
-    rust.name, some-name               in specs/ and proofs/Rules.antt of carv_budget
+    rust.name, some_name               in specs/, Laws/ and proofs/Rules.antt of carv_budget; some_name may also be a crate, or a function, field or argument of any
+                                       src/ or of host/, which decides nothing
     module::f, scheduler/module::f     in src/module.rt of carv_objects, carv_scheduler
     objects::f, scheduler::f           in src/lib.rt there, or passed on by it; carv_area::f, carv_register_image::f, carv::f in these
     Type::name, struct T, enum T       in any src/; carv_name in carv; Mistake::X in host/board/tests/mistakes.rs
@@ -28,26 +29,41 @@ import re
 import sys
 
 ROOT = pathlib.Path(sys.argv[1] if len(sys.argv) > 1 else pathlib.Path(__file__).resolve().parent.parent)
-CRATE = {None: 'carv_objects', 'objects': 'carv_objects', 'objects_spec': 'carv_objects_spec', 'scheduler': 'carv_scheduler', 'carv': 'carv', 'scheduler_spec': 'carv_scheduler_spec', 'area': 'carv_area', 'carv_area': 'carv_area', 'register_image': 'carv_register_image', 'carv_register_image': 'carv_register_image', 'replay_records': 'replay_records'}
+CRATE = {None: 'carv_objects', 'carv_c': 'carv_c', 'objects': 'carv_objects', 'objects_spec': 'carv_objects_spec', 'scheduler': 'carv_scheduler', 'carv': 'carv', 'scheduler_spec': 'carv_scheduler_spec', 'area': 'carv_area', 'carv_area': 'carv_area', 'register_image': 'carv_register_image', 'carv_register_image': 'carv_register_image', 'replay_records': 'replay_records'}
 SPECS = {None: 'carv_objects*', 'scheduler': 'carv_scheduler*', 'carv': 'carv', 'register_image': 'carv_register_image'}
 TICKED = re.compile(r'`([^`]+)`')
 
 
 @functools.cache
-def text(pattern):
-    return '\n'.join(p.read_text() for p in sorted(ROOT.glob(pattern)))
+def text(*patterns):
+    return '\n'.join(p.read_text() for pattern in patterns for p in sorted(ROOT.glob(pattern)))
 
 
 def has(pattern, source):
     return re.search(pattern, source, re.M) is not None
 
 
-def exists(pattern):
-    return any(ROOT.glob(pattern))
+def exists(*patterns):
+    return any(True for pattern in patterns for _ in ROOT.glob(pattern))
+
+
+def stands(crate, file):
+    """Where a file of definitions or theorems of a crate may stand."""
+    return ['crates/%s/%s%s.antt' % (crate, folder, file) for folder in ('specs/', 'specs/Laws/', 'proofs/Laws/')]
 
 
 def defined(name, files):
-    return has(r'^ *(?:(?:abbrev|unfoldable|pub|record|data) +)*%s(?: *$| *[:({])' % re.escape(name), text(files))
+    return has(r'^ *(?:(?:abbrev|unfoldable|pub|record|data) +)*%s(?: *$| *[:({])' % re.escape(name), text(*files))
+
+
+BUDGET = [*stands('carv_budget', '*'), 'crates/carv_budget/proofs/Rules.antt']
+
+
+def of_accounts(name):
+    if defined(name, BUDGET):
+        return True
+    code = text('crates/*/src/**/*.rt', 'host/*/src/**/*.rs', 'host/*/tests/**/*.rs')
+    return None if exists('crates/' + name) or has(r'\b(?:fn|const|mod) %s\b|\b%s: ' % (name, name), code) else False
 
 
 def function(name, files, public=''):
@@ -60,10 +76,9 @@ def entry(crate, name):
 
 # A form, and how a name of it is looked up.
 FORMS = [(re.compile(form), look) for form, look in [
-    (r'(?:(scheduler|carv|register_image)/)?([A-Z]\w*)\.(?!antt$)([^ /]+)', lambda c, f, n: defined(n, 'crates/%s/specs/**/%s.antt' % (SPECS[c], f))),
-    (r'(scheduler|carv|register_image)/([A-Z]\w*)', lambda c, f: exists('crates/%s/specs/**/%s.antt' % (SPECS[c], f))),
-    (r'rust\.([\w-]+)', lambda n: defined(n, 'crates/carv_budget/specs/Rust.antt')),
-    (r'([a-z]\w*(?:-\w+)+)', lambda n: defined(n, 'crates/carv_budget/specs/**/*.antt') or defined(n, 'crates/carv_budget/proofs/Rules.antt')),
+    (r'(?:(scheduler|carv|register_image)/)?([A-Z]\w*)\.(?!antt$)([^ /]+)', lambda c, f, n: defined(n, stands(SPECS[c], f))),
+    (r'(scheduler|carv|register_image)/([A-Z]\w*)', lambda c, f: exists(*stands(SPECS[c], f))),
+    (r'rust\.(\w+)', lambda n: defined(n, ['crates/carv_budget/specs/Rust.antt'])),
     (r'(Mistake::\w+)', lambda n: has(n + r'\b', text('host/board/tests/mistakes.rs'))),
     (r'[A-Z]\w*::(\w+)', lambda n: has(r'\b(?:fn|const) %s\b|^    %s\b' % (n, n), text('crates/*/src/*.rt'))),
     (r'(objects|scheduler|carv_area|carv_register_image|carv)::(\w+)', entry),
@@ -73,6 +88,7 @@ FORMS = [(re.compile(form), look) for form, look in [
     (r'(carv_(?!(?:area|budget|objects|objects_spec|register_image|scheduler|scheduler_spec)$)\w+)', lambda n: function(n, 'crates/carv/src/lib.rt')),
     (r'(\w+\.rt)', lambda n: exists('crates/*/src/' + n)),
     (r'(replay_\w+)', lambda n: exists('crates/%s/src' % n)),
+    (r'([a-z][a-z0-9]*(?:_\w+)+)', of_accounts),
     (r'([^ ]+/[^ ]+)', lambda n: any((ROOT / base / n).exists() for base in ('', 'crates', 'crates/carv_budget'))),
 ]]
 
@@ -105,9 +121,9 @@ def names(cell, column, crate):
             yield program, exists('host/*/src/bin/%s.rs' % program)
     fields = set()
     for c, file, brackets in re.findall(r'`(?:(scheduler|carv|register_image)/)?([A-Z]\w*)\.[^`]+` \(([^)]*)\)', cell):
-        for field in re.findall(r'`([a-z][\w-]*)`', brackets):
+        for field in re.findall(r'`([a-z]\w*)`', brackets):
             fields.add(field)
-            yield '%s in %s of %s' % (field, file, CRATE[c or None]), defined(field, 'crates/%s/specs/**/%s.antt' % (SPECS[c or None], file))
+            yield '%s in %s of %s' % (field, file, CRATE[c or None]), defined(field, stands(SPECS[c or None], file))
     for name in TICKED.findall(cell):
         if name not in fields:
             yield name, there(name)

@@ -1,5 +1,7 @@
 #!/usr/bin/env python3
-"""Rewrites text that was made on the names of commit c5e0618 (crates carv_registry and carv_board) to today's names.
+"""Rewrites text that was made on the names of commit c5e0618 (crates carv_registry and carv_board) to those of 5fa115f.
+
+That is the last commit before the port to today's Rattle: docs/PORT.md says how its names and files became today's.
 
     tools/renamed.py < old.patch > new.patch     a patch: paths, modules and words, file by file
     tools/renamed.py --file PATH < old > new     one file that stood at PATH then

@@ -4,6 +4,7 @@ use crate::area::AreaFile;
 use crate::figures::{count, grouped};
 use crate::kept_names;
 use crate::names::Names;
+use crate::options::Kept;
 use crate::output::Output;
 use crate::status::{Failure, Status};
 use carv::{Board, MOST_EXITS, MOST_OBJECTS, MOST_THREADS};
@@ -11,19 +12,18 @@ use carv_layout::area::{self, Table};
 use carv_layout::sound::{self, Fault};
 use carv_text::json::Json;
 use std::fmt::Write;
-use std::path::Path;
 
 /// Checks a file and answers the exit status.
-pub fn check(path: &Path, as_json: bool, out: &mut Output) -> Result<Status, Failure> {
-    let file = AreaFile::read(path)?;
+pub fn check(kept: &Kept, out: &mut Output) -> Result<Status, Failure> {
+    let file = AreaFile::read(&kept.path)?;
     let verdict = Verdict {
         wrong_length: file.wrong_length(),
         table: area::read(&file.bytes),
         faults: sound::faults(&file.bytes),
         is_sound_to_the_library: Board::from_bytes(&file.bytes).is_ok(),
-        names: kept_names::read(path),
+        names: kept_names::of(kept),
     };
-    if as_json {
+    if kept.json {
         out.line(verdict.json(&file.bytes))?;
     } else {
         out.text(verdict.text(&file.bytes))?;

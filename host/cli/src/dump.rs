@@ -10,6 +10,7 @@ use crate::codes::CAUSES;
 use crate::figures::count;
 use crate::kept_names;
 use crate::names::Names;
+use crate::options::Kept;
 use crate::output::Output;
 use crate::status::{Failure, Status};
 use crate::text::thread_id;
@@ -17,14 +18,13 @@ use carv_layout::area::{self, Exit, ObjectRow, Table, ThreadRow, Totals};
 use carv_layout::{BUDGET, sound};
 use carv_text::json::Json;
 use std::collections::BTreeMap;
-use std::path::Path;
 
 /// Prints a file and answers the exit status.
-pub fn dump(path: &Path, as_json: bool, out: &mut Output) -> Result<Status, Failure> {
-    let file = AreaFile::read(path)?;
-    let names = kept_names::read(path);
+pub fn dump(kept: &Kept, out: &mut Output) -> Result<Status, Failure> {
+    let file = AreaFile::read(&kept.path)?;
+    let names = kept_names::of(kept);
     let is_sound = sound::is_sound(&file.bytes);
-    if as_json {
+    if kept.json {
         out.line(json(&file.bytes, &names))?;
     } else {
         if !is_sound {

@@ -28,7 +28,8 @@ pub struct Files {
 }
 
 impl Files {
-    /// Prepares them. None of them may be the list, the board to begin with, or another of them.
+    /// Prepares them. None of them may be the list, another of them or, but for the board, the one to
+    /// begin with.
     pub fn prepare(options: &Replay) -> Result<Self, Failure> {
         let keep = options.keep.as_deref();
         let names = keep.filter(|path| !is_special(path)).map(kept_names::path);
@@ -61,13 +62,21 @@ impl Files {
 
 fn are_apart(options: &Replay, written: &[(&str, Option<&Path>)]) -> Result<(), Failure> {
     let list = options.list_file().unwrap_or(Path::new("/dev/stdin"));
-    let names = options.board.as_deref().map(kept_names::path);
+    // A board that is gone on with may be kept in its own file.
+    let board = options.board.as_deref();
+    let board = board.filter(|board| !is_kept_in(board, options));
+    let names = board.map(kept_names::path);
     let read = [
         (LIST, Some(list)),
-        ("the board to begin with", options.board.as_deref()),
+        ("the board to begin with", board),
         ("its names", names.as_deref()),
     ];
     apart(&there(&read), &there(written)).map_err(|why| Failure::usage(why.to_string()))
+}
+
+fn is_kept_in(board: &Path, options: &Replay) -> bool {
+    let keep = options.keep.as_deref();
+    keep.is_some_and(|keep| apart(&[(BOARD, board)], &[(BOARD, keep)]).is_err())
 }
 
 fn there<'a>(files: &[(&'a str, Option<&'a Path>)]) -> Vec<(&'a str, &'a Path)> {

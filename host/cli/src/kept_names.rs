@@ -2,6 +2,7 @@
 
 use crate::list::{self, BadLine, Line};
 use crate::names::Names;
+use crate::options::Kept;
 use crate::reader::{Read, Reader};
 use crate::status::Failure;
 use carv_files::OutputFile;
@@ -15,6 +16,14 @@ pub fn path(board: &Path) -> PathBuf {
     let mut path = board.as_os_str().to_os_string();
     path.push(".names");
     path.into()
+}
+
+/// The names beside a board that is looked at, if they are asked for.
+pub fn of(kept: &Kept) -> Names {
+    match kept.with_names {
+        true => read(&kept.path),
+        false => Names::default(),
+    }
 }
 
 /// The names beside a board's file, none if there are none. What is wrong with them is said.

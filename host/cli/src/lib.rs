@@ -56,8 +56,8 @@ fn run_command(command: &Command) -> Result<Status, Failure> {
     let status = match command {
         Command::Help(topic) => out.text(topic.text()).map(|()| Status::Fine),
         Command::Calls => out.text(help::calls()).map(|()| Status::Fine),
-        Command::Dump(path, json) => dump::dump(path, *json, &mut out),
-        Command::Check(path, json) => check::check(path, *json, &mut out),
+        Command::Dump(kept) => dump::dump(kept, &mut out),
+        Command::Check(kept) => check::check(kept, &mut out),
         Command::Replay(options) => run::replay(options, &mut out),
     }?;
     out.flush()?;

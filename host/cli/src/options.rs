@@ -18,12 +18,23 @@ pub enum Command {
     Help(Topic),
     /// Print the table of calls.
     Calls,
-    /// Print a kept board, as JSON or not.
-    Dump(PathBuf, bool),
-    /// Check a kept board, and answer as JSON or not.
-    Check(PathBuf, bool),
+    /// Print a kept board.
+    Dump(Kept),
+    /// Check a kept board.
+    Check(Kept),
     /// Replay a list, and report on it if that is asked for.
     Replay(Box<Replay>),
+}
+
+/// A kept board, and how it is looked at.
+#[derive(Debug, PartialEq, Eq)]
+pub struct Kept {
+    /// Its file.
+    pub path: PathBuf,
+    /// As JSON or not.
+    pub json: bool,
+    /// With the names beside it.
+    pub with_names: bool,
 }
 
 /// Which answers are printed.
@@ -44,6 +55,8 @@ pub struct Replay {
     list: Option<PathBuf>,
     /// Answers as JSON.
     pub json: bool,
+    /// Whether the answers as JSON end with a line of the services, too.
+    pub services: bool,
     /// Which answers.
     pub show: Show,
     /// Whether the tool goes on behind a bad line.
@@ -101,6 +114,7 @@ pub const COMMANDS: [&str; 6] = ["replay", "report", "dump", "check", "calls", "
 /// Options of `replay`; those that are true take a value.
 const REPLAY: &[(&str, bool)] = &[
     ("--json", false),
+    ("--services", false),
     ("--quiet", false),
     ("--silent", false),
     ("--bad-lines", true),
@@ -123,13 +137,14 @@ const REPORT: &[(&str, bool)] = &[
     ("--bad-lines", true),
     ("--board", true),
 ];
-const JSON: &[(&str, bool)] = &[("--json", false)];
+/// Options of `dump` and `check`.
+const KEPT: &[(&str, bool)] = &[("--json", false), ("--names", false)];
 
 /// What these arguments, without the tool's own name, ask for.
 pub fn parse(arguments: &[OsString]) -> Result<Command, Failure> {
     let Some((command, rest)) = arguments.split_first() else {
         return Err(Failure::usage(
-            "say what to do: replay, report, dump, check, calls or help",
+            "say what to do: replay, dump, check, calls or help",
         ));
     };
     let command = command.to_string_lossy();
@@ -142,14 +157,8 @@ pub fn parse(arguments: &[OsString]) -> Result<Command, Failure> {
         }
         "replay" => replay(Given::parse("replay", rest, REPLAY)?),
         "report" => report(Given::parse("report", rest, REPORT)?),
-        "dump" => {
-            let (path, json) = area("dump", rest)?;
-            Ok(Command::Dump(path, json))
-        }
-        "check" => {
-            let (path, json) = area("check", rest)?;
-            Ok(Command::Check(path, json))
-        }
+        "dump" => kept("dump", rest).map(Command::Dump),
+        "check" => kept("check", rest).map(Command::Check),
         "calls" => {
             let given = Given::parse("calls", rest, &[])?;
             given.at_most("calls", 0)?;
@@ -172,13 +181,17 @@ fn help(rest: &[OsString]) -> Result<Command, Failure> {
     }
 }
 
-fn area(command: &str, rest: &[OsString]) -> Result<(PathBuf, bool), Failure> {
-    let mut given = Given::parse(command, rest, JSON)?;
+fn kept(command: &str, rest: &[OsString]) -> Result<Kept, Failure> {
+    let mut given = Given::parse(command, rest, KEPT)?;
     given.at_most(command, 1)?;
     let path = given.rest.pop().map(PathBuf::from).ok_or_else(|| {
         Failure::usage(format!("`carv {command}` needs the file of a kept board"))
     })?;
-    Ok((path, given.has("--json")))
+    Ok(Kept {
+        path,
+        json: given.has("--json"),
+        with_names: given.has("--names"),
+    })
 }
 
 /// The list's file; none for standard input.
@@ -253,6 +266,7 @@ fn replay(mut given: Given) -> Result<Command, Failure> {
     let replay = Replay {
         list: list_file(&mut given),
         json: given.has("--json"),
+        services: given.has("--services"),
         show,
         skips_bad_lines: skips_bad_lines(&given)?,
         board: given.path("--board"),
@@ -265,5 +279,10 @@ fn replay(mut given: Given) -> Result<Command, Failure> {
         trace: given.path("--trace"),
         report: None,
     };
-    drawn(replay, "--svg or --html")
+    if replay.services && !replay.json {
+        return Err(Failure::usage(
+            "--services is about the answers as JSON: give --json, too",
+        ));
+    }
+    drawn(replay, "--svg")
 }

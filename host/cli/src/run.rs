@@ -243,7 +243,9 @@ impl Run<'_> {
         }
         if self.options.json {
             let spent = Spent(self.watch.history()).json(&self.names);
-            for line in report::answers_json(&self.watch).into_iter().chain(spent) {
+            let services = self.options.services.then_some(&self.watch);
+            let services = services.and_then(report::answers_json);
+            for line in services.into_iter().chain(spent) {
                 self.out.line(line)?;
             }
             self.out.line(self.summary.json())?;

@@ -88,7 +88,7 @@ impl Summary {
                 ("meaning", refusal.meaning().into()),
             ])
         });
-        let summary = Json::object([
+        let mut summary = vec![
             ("lines", self.lines.into()),
             ("calls", self.calls().into()),
             ("accepted", self.accepted.into()),
@@ -96,9 +96,12 @@ impl Summary {
             ("refusals", Json::list(refusals)),
             ("bad_lines", self.bad_lines.into()),
             ("stopped_at", self.stopped_at.into()),
-            ("interrupted_at", self.interrupted_at.into()),
-        ]);
-        Json::object([("summary", summary)])
+        ];
+        let interrupted = self
+            .interrupted_at
+            .map(|line| ("interrupted_at", line.into()));
+        summary.extend(interrupted);
+        Json::object([("summary", Json::object(summary))])
     }
 }
 

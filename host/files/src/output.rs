@@ -51,6 +51,15 @@ impl fmt::Display for CannotWrite {
 
 impl Error for CannotWrite {}
 
+impl CannotWrite {
+    /// The same with the path behind: what can't be written to where, and why.
+    #[must_use]
+    pub fn to_where(&self) -> String {
+        let Self { what, path, why } = self;
+        format!("{what} can't be written to {}: {why}", path.display())
+    }
+}
+
 impl OutputFile {
     /// A file at this path, which is what ("the picture") to its user.
     ///

@@ -15,6 +15,20 @@ fn folder(name: &str) -> PathBuf {
     folder
 }
 
+/// A test's own folder for links, outside of the repository, in which `rt ci` takes no link.
+fn folder_of_links(name: &str) -> PathBuf {
+    let process = std::process::id();
+    let folder = std::env::temp_dir().join(format!("carv_files-{process}-{name}"));
+    let folder = folder.join(name);
+    fs::create_dir_all(&folder).expect("a folder");
+    folder
+}
+
+fn remove(folder: &Path) {
+    let above = folder.parent().expect("the test's");
+    fs::remove_dir_all(above).expect("a folder");
+}
+
 /// The names of what is in a folder.
 fn names(folder: &Path) -> Vec<String> {
     let entries = fs::read_dir(folder).expect("a folder");
@@ -77,7 +91,7 @@ fn what_cannot_be_written_is_said_at_once() {
 
 #[test]
 fn links_stay_and_lead_to_the_new_one() {
-    let folder = folder("links");
+    let folder = folder_of_links("links");
     fs::write(folder.join("old"), "old").expect("a file");
     for (link, target) in [("to-old", "old"), ("to-new", "new")] {
         let path = folder.join(link);
@@ -97,6 +111,7 @@ fn links_stay_and_lead_to_the_new_one() {
     symlink("round", folder.join("round")).expect("a link");
     let round = OutputFile::prepare("the list", &folder.join("round"));
     assert!(round.is_err());
+    remove(&folder);
 }
 
 #[test]
@@ -154,7 +169,7 @@ fn devices_are_written_as_they_are() {
 
 #[test]
 fn one_file_for_two_things_is_refused() {
-    let folder = folder("apart");
+    let folder = folder_of_links("apart");
     let [list, link, board] = ["list", "link", "board"].map(|name| folder.join(name));
     fs::write(&list, "").expect("a file");
     symlink("list", &link).expect("a link");
@@ -180,4 +195,5 @@ fn one_file_for_two_things_is_refused() {
     assert_eq!(why.to_string(), expected);
     let fine = [("the board", board.as_path()), ("a", null), ("b", null)];
     assert_eq!(apart(&[("the list", &list), ("c", null)], &fine), Ok(()));
+    remove(&folder);
 }

@@ -64,15 +64,14 @@ impl Svg {
 
     /// Filled rectangles that look alike, as one element; nothing if there are none.
     pub fn rects(&mut self, areas: &[Area], fill: &str, more: &str) {
-        let mut path = Path::new();
+        let mut steps = String::new();
         for Area(x, y, width, height) in areas {
-            path.move_to((*x, *y));
-            path.right_by(*width);
-            path.down_by(*height);
-            path.right_by(-*width);
-            path.close((*x, *y));
+            write!(steps, "M{x:.1} {y:.1}h{width:.1}v{height:.1}h-{width:.1}z")
+                .expect("a string takes all text");
         }
-        self.path(path, &format!(r#"fill="{fill}" {more}"#));
+        if !areas.is_empty() {
+            self.element(format_args!(r#"<path d="{steps}" fill="{fill}" {more}/>"#));
+        }
     }
 
     /// Horizontal lines (left, right, height) that look alike, as one element.
@@ -257,7 +256,7 @@ mod tests {
         );
         let text = svg.finish(10.0, 20.0, "t");
         assert_eq!(text.matches("<path").count(), 1);
-        assert!(text.contains(r#""m1 2h3v4h-3zm4 4h7v8h-7z""#), "{text}");
+        assert!(text.contains("M1.0 2.0h3.0v4.0h-3.0zM5.0 6.0h7.0v8.0h-7.0z"));
     }
 
     /// Steps of a third don't add up to another place.

@@ -19,7 +19,7 @@ Runs a day in small of the coin sorter on the port's board. Without --day it is 
 counting, reject gate, bag printer, display and upload, each with a share of every 10 ms and a
 memory limit, for 3 s of board time in ticks of 1 ms. A day file always gives the same day.
 
-usage: sorter [--day FILE] [--svg PATH] [--from MS] [--calls PATH] [--html PATH]
+usage: sorter [--svg PATH] [--from MS] [--calls PATH] [--html PATH] [--day FILE]
        sorter --print-day [NAME]
        sorter --help
 

@@ -105,7 +105,7 @@ impl Files {
         apart(&read, &written).map_err(|why| called_wrongly(why.to_string()))?;
         let prepare = |what: &str, path: &PathBuf| {
             let file = OutputFile::prepare(what, path);
-            file.map_err(|why| Failure(FAILED, why.to_string()))
+            file.map_err(|why| Failure(FAILED, why.to_where()))
         };
         let calls = options.calls.as_ref().map(|path| prepare(calls, path));
         let html = options.html.as_ref().map(|path| prepare(html, path));
@@ -171,7 +171,7 @@ fn status(day: &Day) -> u8 {
 fn write(file: OutputFile, what: &str, text: impl FnOnce() -> String) -> Result<(), Failure> {
     let path = file.path().display().to_string();
     let written = file.finish_with(text().as_bytes());
-    written.map_err(|why| Failure(FAILED, why.to_string()))?;
+    written.map_err(|why| Failure(FAILED, why.to_where()))?;
     print(&format!("{what} is in {path}.\n"))
 }
 

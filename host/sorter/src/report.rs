@@ -55,6 +55,8 @@ pub fn report(day: &Day) -> String {
     lines.push(String::new());
     lines.extend(tables::services(day));
     lines.push(String::new());
+    lines.extend(tables::missed(day));
+    lines.push(String::new());
     lines.extend(tables::spent(day));
     lines.push(String::new());
     for check in checks(day) {

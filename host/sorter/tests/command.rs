@@ -42,7 +42,7 @@ fn helps() {
     let output = sorter(&["--help"]);
     assert_eq!(status(&output), Some(0));
     let text = String::from_utf8(output.stdout).expect("text");
-    assert!(text.contains("usage: sorter [--day FILE] [--svg PATH] [--from MS] [--calls PATH]"));
+    assert!(text.contains("usage: sorter [--svg PATH] [--from MS] [--calls PATH]"));
     assert!(text.lines().all(|line| line.len() <= 100));
 }
 
@@ -79,7 +79,7 @@ fn no_place_for_a_file() {
         let _ = std::fs::remove_file(&svg);
         let output = sorter(&["--svg", "of_no_place.svg", option, "no such folder/day"]);
         assert_eq!(status(&output), Some(1));
-        let why = format!("the {what} no such folder/day can't be written: ");
+        let why = format!("the {what} can't be written to no such folder/day: ");
         assert!(text(&output.stderr).contains(&why), "{what}");
         assert!(output.stdout.is_empty(), "the day was not run");
         assert!(!svg.exists());

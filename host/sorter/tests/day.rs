@@ -121,7 +121,7 @@ fn the_report_tells() {
         "bag printer on again",
         "upload overruns",
         "\n  idle ",
-        "\n  all                                                                           403,712    524,288\n",
+        "\n  all                                                         403,712    524,288\n",
         "yes  No service got more than its share in any period.",
         "yes  No period was overspent, by any budget with all below it, and the clock never fell.",
         "\n  root             10         9   from 120 ms\n",

@@ -135,7 +135,7 @@ fn counting_gets_more() {
     }
     let report = report(&day);
     for text in [
-        "\n  upload            2    off, refused with 12 at 0 ms                                       81,920\n",
+        "\n  upload            2    off, refused with 12 at 0 ms                     81,920\n",
         "\n  At 0 ms upload stayed off: its budget was refused with 12: the payer can't cover",
         "yes  Each refused carve-out left every byte of the board.",
     ] {

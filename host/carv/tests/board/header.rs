@@ -168,6 +168,8 @@ fn codes() {
         assert_eq!(constant(&format!("CARV_BYTES_{name}")), kind.bytes());
         assert_eq!(Kind::try_from(kind.code()), Ok(*kind));
     }
+    let unlisted = Kind::try_from(10).map_err(Refusal::from);
+    assert_eq!(unlisted, Err(Refusal::Code));
     for cause in Cause::ALL {
         assert_eq!(
             constant(&format!("CARV_CAUSE_{}", name_of(cause))),

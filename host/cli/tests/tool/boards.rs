@@ -21,14 +21,12 @@ fn a_kept_board_goes_on() {
     let arguments = ["replay", "--silent", "--keep", text(&kept)];
     assert_eq!(carv(&arguments, first).status, 3);
     assert_ne!(std::fs::read(&kept).expect("a kept board"), whole);
-    let on = scratch("on.board");
-    let arguments = ["replay", "--silent", "--keep", text(&on)];
     let ran = carv(
         &[&arguments[..], &["--board", text(&kept)]].concat(),
         second,
     );
     assert_eq!(ran.status, 3);
-    assert_eq!(std::fs::read(&on).expect("a kept board"), whole);
+    assert_eq!(std::fs::read(&kept).expect("a kept board"), whole);
 }
 
 #[test]
@@ -67,32 +65,32 @@ fn boards_that_are_not_there() {
     assert!(ran.err.contains("can't be written: "), "{}", ran.err);
 }
 
-/// The example's board.
+/// The example's board without the names that its list gives.
 const DUMPED: &str = "\
 Board: 4 of 512 objects, 2 budgets among them, 4 of 128 threads, 1 in the ready queue, 1 of 32 ends logged, next id 7
 Current: thread 5, after 8 switches
 
 Budgets, each below the one that it was carved out of:
-  budget        CPU share  left  reserved  period from       memory      used  reserved       free
-  1 root            10 ms  6 ms      4 ms        20 ms  1,000,000 B     128 B  65,536 B  934,336 B
-    2 counting       4 ms  3 ms      0 ms        10 ms     65,536 B  37,888 B       0 B   27,648 B
+  budget  CPU share  left  reserved  period from       memory      used  reserved       free
+  1 root      10 ms  6 ms      4 ms        20 ms  1,000,000 B     128 B  65,536 B  934,336 B
+    2          4 ms  3 ms      0 ms        10 ms     65,536 B  37,888 B       0 B   27,648 B
 
 Totals, each budget with all below it:
-  budget        CPU left       memory      used       free
-  1 root            9 ms  1,000,000 B  38,016 B  961,984 B
-    2 counting      3 ms     65,536 B  37,888 B   27,648 B
+  budget  CPU left       memory      used       free
+  1 root      9 ms  1,000,000 B  38,016 B  961,984 B
+    2         3 ms     65,536 B  37,888 B   27,648 B
 
 Other objects:
-  object  kind    payer           charge
-       4  thread  2 (counting)  33,792 B
-       6  frame   2 (counting)   4,096 B
+  object  kind    payer    charge
+       4  thread  2      33,792 B
+       6  frame   2       4,096 B
 
 Threads:
-  thread  state                    queue    budget                     run ticks  space
-  0       blocked: notification 1  -        none                               0  no space
-  4       ready                    1 of 1   2 (counting)                       4  space 1, cspace 1, root 4096
-  5       dead                     current  3 (bag printer), not live          2  space 1, cspace 1, root 8192
-  idle    running                  -        none                               2  no space
+  thread  state                    queue    budget       run ticks  space
+  0       blocked: notification 1  -        none                 0  no space
+  4       ready                    1 of 1   2                    4  space 1, cspace 1, root 4096
+  5       dead                     current  3, not live          2  space 1, cspace 1, root 8192
+  idle    running                  -        none                 2  no space
 
 Ready queue, threads from front to back:
   4

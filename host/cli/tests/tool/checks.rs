@@ -37,7 +37,7 @@ fn a_damaged_board() {
 not sound: 3 faults
 
 broken rule: used equals the charges it pays
-  byte 176 (memory used of object 2 (counting), place 1): memory used of budget 2 (counting) is 37889, the charges that it pays sum up to 37888
+  byte 176 (memory used of object 2, place 1): memory used of budget 2 is 37889, the charges that it pays sum up to 37888
 
 broken rule: queue ids are Ready threads other than idle
   byte 66608 (thread in queue place 0): thread 7 in the queue has no record
@@ -50,7 +50,7 @@ broken rule: Ready threads other than idle are in the queue
         (5, expected.to_string())
     );
     let (status, json) = check("damaged-json.board", &changes[..1], &["--json"]);
-    let expected = "{\"check\":{\"sound\":false,\"library\":false,\"agree\":true,\"count\":1,\"faults\":[{\"rule\":\"used equals the charges it pays\",\"offset\":176,\"word\":\"memory used of object 2 (counting), place 1\",\"fault\":\"memory used of budget 2 (counting) is 37889, the charges that it pays sum up to 37888\",\"more\":0}]}}\n";
+    let expected = "{\"check\":{\"sound\":false,\"library\":false,\"agree\":true,\"count\":1,\"faults\":[{\"rule\":\"used equals the charges it pays\",\"offset\":176,\"word\":\"memory used of object 2, place 1\",\"fault\":\"memory used of budget 2 is 37889, the charges that it pays sum up to 37888\",\"more\":0}]}}\n";
     assert_eq!((status, json.as_str()), (5, expected));
 }
 

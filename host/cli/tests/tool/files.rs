@@ -49,8 +49,12 @@ fn no_file_is_written_over_what_is_read() {
             "the picture would be written over the list, ",
         ),
         (
-            vec![list, "--board", board, "--keep", board],
-            "the board would be written over the board to begin with, ",
+            vec![list, "--board", board, "--keep", list],
+            "the board would be written over the list, ",
+        ),
+        (
+            vec![list, "--board", board, "--keep", board, "--svg", board],
+            "the board and the picture would both be written to ",
         ),
         (
             vec![list, "--board", board, "--svg", board],
@@ -158,11 +162,15 @@ fn a_picture_behind_the_answers() {
 
 #[test]
 fn a_link_is_followed() {
-    let (folder, list) = folder("link");
+    let (_, list) = folder("link");
+    // Outside of the repository, in which `rt ci` takes no link.
+    let folder = std::env::temp_dir().join(format!("carv-link-{}", std::process::id()));
+    fs::create_dir_all(&folder).expect("a folder");
     let link = folder.join("link");
     std::os::unix::fs::symlink("target", &link).expect("a link");
     carv(&["replay", text(&list), "--keep", text(&link)], "");
     let target = fs::read(folder.join("target")).expect("a kept board");
+    fs::remove_dir_all(&folder).expect("a folder");
     let straight = scratch("straight.board");
     carv(&["replay", text(&list), "--keep", text(&straight)], "");
     assert!(target == fs::read(straight).expect("a kept board"));

@@ -140,6 +140,6 @@ fn a_list_that_was_not_interrupted_says_nothing_of_it() {
     let ran = carv(&["replay", "--silent"], EXAMPLE);
     assert!(!ran.err.contains("interrupted"), "{}", ran.err);
     let ran = carv(&["replay", "--silent", "--json"], EXAMPLE);
-    assert!(ran.out.contains("\"interrupted_at\":null"), "{}", ran.out);
+    assert!(!ran.out.contains("interrupted"), "{}", ran.out);
     assert_eq!(carv(&["report"], EXAMPLE).err, "");
 }

@@ -16,12 +16,12 @@ fn names_are_kept_beside_the_board() {
     let (board, names) = example("named.board");
     let kept = std::fs::read_to_string(&names).expect("names");
     assert_eq!(kept, "name 2 counting\nname 3 bag printer\n");
+    let named = "{\"id\":2,\"name\":\"counting\",";
+    let ran = carv(&["dump", text(&board), "--json", "--names"], "");
+    assert!(ran.out.contains(named), "{}", ran.out);
+    // Only where they are asked for.
     let ran = carv(&["dump", text(&board), "--json"], "");
-    assert!(
-        ran.out.contains("{\"id\":2,\"name\":\"counting\","),
-        "{}",
-        ran.out
-    );
+    assert!(!ran.out.contains("counting"), "{}", ran.out);
 }
 
 /// What goes on with a board goes on with its names; the list may change them.
@@ -51,7 +51,7 @@ fn names_of_an_earlier_board_go() {
     let keep = ["replay", "--silent", "--keep", text(&board)];
     assert_eq!(carv(&keep, "open 10_000_000 1\n").status, 0);
     assert!(!names.exists());
-    let ran = carv(&["dump", text(&board)], "");
+    let ran = carv(&["dump", text(&board), "--names"], "");
     assert_eq!((ran.status, ran.err.as_str()), (0, ""));
 }
 
@@ -74,20 +74,20 @@ fn bad_names_are_said_and_left_out() {
         ),
     ] {
         std::fs::write(&names, text_of_names).expect("a file");
-        for arguments in [["dump", text(&board)], ["check", text(&board)]] {
-            let ran = carv(&arguments, "");
+        for command in ["dump", "check"] {
+            let ran = carv(&[command, text(&board), "--names"], "");
             assert_eq!(ran.status, 0);
             let begin = format!("carv: the names {path}: line ");
             assert!(ran.err.starts_with(&begin), "{}", ran.err);
             assert!(ran.err.contains(said), "{}", ran.err);
             assert_eq!(ran.err.lines().count(), 1, "{}", ran.err);
         }
-        let ran = carv(&["dump", text(&board)], "");
+        let ran = carv(&["dump", text(&board), "--names"], "");
         assert!(ran.out.contains("  2 counting  "), "{}", ran.out);
     }
     std::fs::remove_file(&names).expect("the names");
     std::fs::create_dir(&names).expect("a folder in their place");
-    let ran = carv(&["dump", text(&board)], "");
+    let ran = carv(&["dump", text(&board), "--names"], "");
     std::fs::remove_dir(&names).expect("the folder");
     assert_eq!(ran.status, 0);
     let said = format!("carv: the names {path} can't be read: ");

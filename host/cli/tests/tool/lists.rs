@@ -45,7 +45,7 @@ fn bad_lines_are_objects_in_json() {
         "{\"line\":5,\"error\":\"`tick` takes 1 argument, not 2\",\"form\":\"tick N\"}"
     );
     assert!(
-        found[5].ends_with("\"bad_lines\":2,\"stopped_at\":null,\"interrupted_at\":null}}"),
+        found[5].ends_with("\"bad_lines\":2,\"stopped_at\":null}}"),
         "{}",
         found[5]
     );

@@ -163,7 +163,8 @@ fn at_the_end_of_a_replay() {
         told.contains("\n    The most in a period: 8 ms of 10 ms by root, "),
         "{told}"
     );
-    let ran = carv(&["replay", "--silent", "--json"], STARVING);
+    let as_json = ["replay", "--silent", "--json", "--services"];
+    let ran = carv(&as_json, STARVING);
     let found: Vec<&str> = ran.out.lines().collect();
     for (line, object) in found
         .iter()
@@ -182,7 +183,7 @@ fn at_the_end_of_a_replay() {
         ran.err
             .contains("\n  2 services seen in no whole period, so nothing can be said\n")
     );
-    let none = carv(&["replay", "--silent", "--json"], OPEN);
+    let none = carv(&as_json, OPEN);
     assert!(!none.out.contains("services"), "{}", none.out);
 }
 

@@ -69,7 +69,7 @@ fn wrong_calls_are_told() {
     for (arguments, told) in [
         (
             &[][..],
-            "say what to do: replay, report, dump, check, calls or help.",
+            "say what to do: replay, dump, check, calls or help.",
         ),
         (
             &["chekc"],
@@ -92,6 +92,10 @@ fn wrong_calls_are_told() {
         (&["replay", "--json=1"], "--json takes no value."),
         (&["replay", "--dump", "--dump"], "--dump is given twice."),
         (
+            &["replay", "--services"],
+            "--services is about the answers as JSON: give --json, too.",
+        ),
+        (
             &["report", "--json", "--csv"],
             "a report is JSON or CSV: give --json or --csv, not both.",
         ),
@@ -110,7 +114,7 @@ fn wrong_calls_are_told() {
         ),
         (
             &["replay", "--title", "x"],
-            "--from and --title are about the picture: name its file with --svg or --html.",
+            "--from and --title are about the picture: name its file with --svg.",
         ),
         (
             &["report", "--from", "1"],

@@ -112,8 +112,12 @@ fn notes(scene: &Scene<'_>) -> Vec<String> {
         let sum = |of: fn(&Row) -> u64| rest.iter().map(|row| of(row)).sum::<u64>();
         let got = ms(sum(|row| row.total.got_ns));
         let missed = counted(sum(|row| row.total.periods_missed()), "period");
+        let which = match scene.is_by_missing() {
+            true => "ran less or missed nothing",
+            false => "ran less",
+        };
         notes.push(format!(
-            "Budgets not drawn, which ran less or missed nothing: {more}. Together they got {got} ms, and missed {missed}."
+            "Budgets not drawn, which {which}: {more}. Together they got {got} ms, and missed {missed}."
         ));
     }
     let gaps = (0..scene.numbers.len()).filter(|rank| scene.is_after_gap(*rank));

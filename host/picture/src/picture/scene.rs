@@ -114,6 +114,14 @@ impl<'a> Scene<'a> {
         let rest = rows.filter(|(index, _)| !is_drawn(index));
         rest.map(|(_, row)| row).collect()
     }
+
+    /// Is a budget drawn as it missed a period, before one that missed none?
+    pub fn is_by_missing(&self) -> bool {
+        let has_missed = |row: &Row| row.total.missed.is_some();
+        let drawn = self.drawn().map(|(_, row)| row);
+        let mut drawn = drawn.filter(|row| row.kind == Kind::Budget);
+        drawn.any(has_missed) && !self.rest().into_iter().all(has_missed)
+    }
 }
 
 /// The rows to be drawn: thread 0 and idle, and of the budgets first those that missed a period, then

@@ -115,7 +115,7 @@ fn many_budgets() {
     assert_eq!(missed, 1_400);
     has(
         &svg,
-        "Budgets not drawn, which ran less or missed nothing: 7. Together they got 56 ms, and missed 1,400 periods.",
+        "Budgets not drawn, which ran less: 7. Together they got 56 ms, and missed 1,400 periods.",
     );
     has(&svg, "Events not listed: 10.");
     // The event in the window is listed, rather than the twentieth.
@@ -123,10 +123,9 @@ fn many_budgets() {
     assert!(!svg.contains(">event at 1900</text>"));
 }
 
-/// The most that a picture holds: in every column of every row a bar with least and most, all marks, a
-/// partial period and another share.
-#[test]
-fn the_largest() {
+/// Of most budgets, in every column of every row a bar, a mark and another share, and many events. Of
+/// some ticks nothing is seen.
+fn largest(name: &str, is_seen: fn(u64) -> bool) -> String {
     let mut bench = Bench::without_first();
     let budgets: Vec<ObjectId> = (0..24).map(|_| bench.service(400_000)).collect();
     for (place, budget) in budgets.iter().enumerate() {
@@ -148,12 +147,24 @@ fn the_largest() {
                     .map(|budget| bench.budget_of(*budget, reserved)),
             );
         }
-        if n % 30 != 13 {
+        if is_seen(n) {
             bench.tick([n]);
         }
         bench.timeline.event(n, "x".repeat(1_000));
     }
-    let svg = drawn("largest", &bench.timeline, Some(8_900));
+    drawn(name, &bench.timeline, Some(8_900))
+}
+
+/// The most that a picture holds.
+#[test]
+fn the_largest() {
+    largest("largest", |_| true);
+}
+
+/// The same, with least and most of each bar, all marks, and partial periods.
+#[test]
+fn the_largest_with_partial_periods() {
+    let svg = largest("largest, partial", |n| n % 30 != 13);
     for class in ["average partial", "most partial", "stem partial", "missed"] {
         let paths = svg.matches(&format!("class=\"{class}\"")).count();
         assert!(paths >= 22, "{paths} rows have {class}");

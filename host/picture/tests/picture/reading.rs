@@ -78,19 +78,20 @@ pub fn shapes(svg: &str, classes: &[&str]) -> Vec<Extent> {
     shapes
 }
 
-/// The parts of a path of relative steps.
+/// The parts of a path of relative steps, each from where the one before ended, or from a place of its own.
 fn parts(steps: &str) -> Vec<Extent> {
     let mut parts: Vec<Extent> = Vec::new();
     let (mut at, mut begin) = ((0.0, 0.0), (0.0, 0.0));
     for (letter, numbers) in split(steps) {
         match (letter, &numbers[..]) {
+            ('M', [x, y]) => at = (*x, *y),
             ('m' | 'l', [x, y]) => at = (at.0 + x, at.1 + y),
             ('h', [x]) => at.0 += x,
             ('v', [y]) => at.1 += y,
             ('z', []) => at = begin,
             other => panic!("{other:?} is no step"),
         }
-        if letter == 'm' {
+        if letter == 'm' || letter == 'M' {
             begin = at;
             parts.push(Extent {
                 left: at.0,
@@ -111,7 +112,7 @@ fn split(steps: &str) -> Vec<(char, Vec<f64>)> {
     let mut split: Vec<(char, String)> = Vec::new();
     for character in steps.chars() {
         match (character, split.last_mut()) {
-            ('a'..='z', _) => split.push((character, String::new())),
+            ('a'..='z' | 'M', _) => split.push((character, String::new())),
             ('-', Some((_, numbers))) => numbers.push_str(" -"),
             (_, Some((_, numbers))) => numbers.push(character),
             (_, None) => panic!("`{steps}` begins with no letter"),
@@ -129,7 +130,7 @@ fn split(steps: &str) -> Vec<(char, Vec<f64>)> {
 
 #[test]
 fn paths_are_read() {
-    let svg = r#"<path d="m1 2h3v4h-3zm4-1l.5-6.5l.5 6.5z" class="a b"/><path d="m0 0v1"/>"#;
+    let svg = r#"<path d="M1 2h3v4h-3zm4-1l.5-6.5l.5 6.5z" class="a b"/><path d="m0 0v1"/>"#;
     let read = shapes(svg, &["b"]);
     let places = read.iter().map(|e| [e.left, e.top, e.right, e.bottom]);
     let expected = [[1.0, 2.0, 4.0, 6.0], [5.0, -5.5, 6.0, 1.0]];

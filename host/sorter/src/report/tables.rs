@@ -24,21 +24,12 @@ pub fn services(day: &Day) -> Vec<String> {
     let names = width(services.iter().map(|service| service.name.as_str()));
     let mut lines = vec![
         format!(
-            "  {:<names$}{:^25}{:^28}{:>9}{:>22}",
-            "", "ms of every 10 ms", "periods", "longest", "memory, bytes"
+            "  {:<names$}{:^27}{:>16}{:>22}",
+            "", "ms of every 10 ms", "held back", "memory, bytes"
         ),
         format!(
-            "  {:<names$}{:>7}{:>10}{:>8}{:>8}{:>11}{:>7}{:>11}{:>11} {:>10}",
-            "service",
-            "share",
-            "average",
-            "most",
-            "missed",
-            "held back",
-            "of",
-            "wait, ms",
-            "used",
-            "limit"
+            "  {:<names$}{:>7}{:>10}{:>8}{:>18}{:>12}{:>11}",
+            "service", "share", "average", "most", "periods", "used", "limit"
         ),
     ];
     let totals = Totals::of(day);
@@ -51,7 +42,7 @@ pub fn services(day: &Day) -> Vec<String> {
     let left = ms(PERIOD_NS.saturating_sub(day.given_ns));
     lines.push(row_without_budget(names, "idle", &left, &totals.idle));
     lines.push(format!(
-        "  {:<names$}{:>73} {:>10}",
+        "  {:<names$}{:>55}{:>11}",
         "all",
         grouped(day.memory),
         grouped(day.plan.board.memory_bytes)
@@ -74,16 +65,13 @@ fn row(names: usize, service: &Service, noted: &Noted, total: &Total) -> String 
             ),
             None => "off".to_string(),
         };
-        return format!("  {name:<names$}{share:>7}    {why:<62} {limit:>10}");
+        return format!("  {name:<names$}{share:>7}    {why:<44}{limit:>11}");
     }
+    let held = format!("{} of {}", total.periods_held_back, total.periods_on);
     format!(
-        "  {name:<names$}{share:>7}{:>10.2}{:>8}{:>8}{:>11}{:>7}{:>11}{:>11} {limit:>10}",
+        "  {name:<names$}{share:>7}{:>10.2}{:>8}{held:>18}{:>12}{limit:>11}",
         total.average_ms(),
         ms(total.most_ns),
-        total.periods_missed(),
-        total.periods_held_back,
-        total.periods_on,
-        grouped(total.longest_wait.map_or(0, |wait| wait.ms)),
         grouped(noted.memory),
     )
 }
@@ -97,14 +85,45 @@ fn row_without_budget(names: usize, name: &str, share: &str, total: &Total) -> S
     )
 }
 
+/// What each service missed, and how long it waited.
+pub fn missed(day: &Day) -> Vec<String> {
+    let services = &day.plan.services;
+    let names = width(services.iter().map(|service| service.name.as_str()));
+    let mut lines = vec![
+        "  The periods in which each service missed something, and its longest wait:".to_string(),
+        String::new(),
+        format!(
+            "  {:<names$}{:>7}{:>10}{:>12}",
+            "service", "missed", "of", "wait, ms"
+        ),
+    ];
+    let totals = Totals::of(day).services;
+    for ((total, noted), service) in totals.iter().zip(&day.noted).zip(services) {
+        if noted.was_on {
+            lines.push(format!(
+                "  {:<names$}{:>7}{:>10}{:>12}",
+                service.name,
+                total.periods_missed(),
+                total.periods_on,
+                grouped(total.longest_wait.map_or(0, |wait| wait.ms))
+            ));
+        }
+    }
+    lines.push(String::new());
+    let notes = [
+        "Missed: it wanted more than it got although it had time. Held back: it had used its share \
+         up and wanted more.",
+        "The longest wait is from ready to run, held back or not.",
+    ];
+    let notes = notes.iter().flat_map(|note| wrapped(note, WIDTH));
+    lines.extend(notes.map(|line| format!("  {line}")));
+    lines
+}
+
 /// What the table means, and why services stayed off.
 fn notes(day: &Day, totals: &Totals) -> Vec<String> {
     let mut notes = vec![
         "Averages are over the periods in which a service was switched on.".to_string(),
-        "Missed: it wanted more than it got although it had time. Held back: it had used its share \
-         up and wanted more."
-            .to_string(),
-        "The longest wait is from ready to run, held back or not.".to_string(),
         "Idle has as its share what no service was given.".to_string(),
         "All is the most that was used at once, with what the root pays for budgets.".to_string(),
     ];
