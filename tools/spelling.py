@@ -3,7 +3,7 @@
 
     tools/spelling.py [--try]
 
-Run once, at the top, on what port.py left; it finds nothing to do a second time. Types, modules, functions of src/, exported C names, strings and comments in
+Run once, at the top, on what port.py left; it is refused where proofs have today's form, whose answers bear names that Rattle generates. Types, modules, functions of src/, exported C names, strings and comments in
 plain words keep their spelling; names of the kit's libraries and the names that Rattle generates in proofs of functions do too. Prints the names that fall
 together in a file, and writes nothing with --try.
 """
@@ -123,6 +123,8 @@ def turn(path, text, own):
 
 
 def main():
+    if any(path.endswith("/Answers.antt") for path in files()):
+        sys.exit("The spelling is today's already.")
     texts = {path: open(path, encoding="utf-8").read() for path in files()}
     own = declared(texts)
     changed = 0
