@@ -10,7 +10,7 @@ use std::collections::BTreeMap;
 
 /// Watches the calls of a board, from the last accepted opening on.
 ///
-/// It keeps the timeline, 96 bytes for a period, 24 for each row in it and 32 for each thread; the
+/// It keeps the timeline, 128 bytes for a period, 32 for each row in it and 32 for each thread; the
 /// ledger, about 400 for a period with a charge on a small board; and 136 bytes for each budget and
 /// about 40 for each thread that there ever was. The board is read where it stands, never copied.
 #[derive(Debug, Default)]

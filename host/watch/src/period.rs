@@ -1,4 +1,4 @@
-//! What was seen of a period: 96 bytes, 24 for each budget, and 32 for each thread.
+//! What was seen of a period: 128 bytes, 16 for each budget and 16 for what it has left, and 32 for each thread.
 
 use crate::TICKS;
 use crate::doing::{Doing, Doings};
@@ -15,17 +15,11 @@ pub struct Line {
     pub doings: Doings,
     /// The highest share seen in it. A share is at most a period.
     share_ns: u32,
-    /// What it has left at the period's last tick; none if that wasn't seen, or if it isn't live.
-    left_ns: Option<u32>,
 }
 
 impl Line {
     pub fn share_ns(&self) -> u64 {
         self.share_ns.into()
-    }
-
-    pub fn left_ns(&self) -> Option<u64> {
-        self.left_ns.map(u64::from)
     }
 }
 
@@ -45,37 +39,42 @@ pub struct Period {
     first_ran: u16,
     /// What was booked in each ms, to whoever ran. It is at most a tick.
     booked_ns: [u32; PLACES],
-    /// By rising id.
+    lists: Box<Lists>,
+}
+
+/// What was seen of budgets and threads in a period, each by rising id.
+#[derive(Debug, Default)]
+struct Lists {
     lines: Vec<Line>,
+    /// What a budget has left at the period's last tick. One that isn't here wasn't live then, or that tick wasn't seen.
+    left_ns: Vec<(ObjectId, u32)>,
     threads: Vec<ThreadLine>,
 }
 
 impl Period {
     /// Notes a ms, over what was noted for it before.
     pub fn note(&mut self, place: usize, glimpse: &Glimpse) {
-        let is_last = place == PLACES - 1;
-        for line in &mut self.lines {
+        for line in &mut self.lists.lines {
             line.doings.set(place, Doing::Off);
-            line.left_ns = line.left_ns.filter(|_| !is_last);
         }
-        for line in &mut self.threads {
+        for line in &mut self.lists.threads {
             line.doings.set(place, Doing::Off);
         }
         self.seen |= 1 << place;
         self.first_ran &= !(1 << place);
         self.first_ran |= u16::from(glimpse.first_runs) << place;
         self.booked_ns[place] = narrow(glimpse.booked_ns);
-        if self.lines.is_empty() {
-            self.lines.reserve_exact(glimpse.budgets.len());
-            self.threads.reserve_exact(glimpse.threads.len());
+        if self.lists.lines.is_empty() {
+            self.lists.lines.reserve_exact(glimpse.budgets.len());
+            self.lists.threads.reserve_exact(glimpse.threads.len());
         }
         for seen in &glimpse.budgets {
             let line = self.line_mut(seen.budget);
             line.doings.set(place, seen.doing);
             line.share_ns = line.share_ns.max(narrow(seen.share_ns));
-            if is_last {
-                line.left_ns = seen.left_ns.map(narrow);
-            }
+        }
+        if place == PLACES - 1 {
+            self.note_left(glimpse);
         }
         for seen in &glimpse.threads {
             let line = self.thread_mut(seen.thread);
@@ -84,23 +83,34 @@ impl Period {
         }
     }
 
+    /// Notes what each budget has left, in place of what was noted before.
+    fn note_left(&mut self, glimpse: &Glimpse) {
+        let left_ns = &mut self.lists.left_ns;
+        left_ns.clear();
+        left_ns.reserve_exact(glimpse.budgets.len());
+        for seen in &glimpse.budgets {
+            left_ns.extend(seen.left_ns.map(|left| (seen.budget, narrow(left))));
+        }
+        left_ns.sort_unstable_by_key(|(budget, _)| *budget);
+    }
+
     fn line_mut(&mut self, budget: ObjectId) -> &mut Line {
-        let place = self.lines.binary_search_by_key(&budget, |line| line.budget);
+        let lines = &mut self.lists.lines;
+        let place = lines.binary_search_by_key(&budget, |line| line.budget);
         let place = place.unwrap_or_else(|place| {
             let line = Line {
                 budget,
                 doings: Doings::default(),
                 share_ns: 0,
-                left_ns: None,
             };
-            self.lines.insert(place, line);
+            lines.insert(place, line);
             place
         });
-        &mut self.lines[place]
+        &mut lines[place]
     }
 
     fn thread_mut(&mut self, thread: ThreadId) -> &mut ThreadLine {
-        let lines = &mut self.threads;
+        let lines = &mut self.lists.threads;
         let place = lines.binary_search_by_key(&thread, |line| line.thread);
         let place = place.unwrap_or_else(|place| {
             let line = ThreadLine {
@@ -115,17 +125,25 @@ impl Period {
     }
 
     pub fn lines(&self) -> &[Line] {
-        &self.lines
+        &self.lists.lines
     }
 
     pub fn threads(&self) -> &[ThreadLine] {
-        &self.threads
+        &self.lists.threads
     }
 
     /// The line of a budget.
     pub fn line(&self, budget: ObjectId) -> Option<&Line> {
-        let found = self.lines.binary_search_by_key(&budget, |line| line.budget);
-        found.ok().map(|at| &self.lines[at])
+        let lines = &self.lists.lines;
+        let found = lines.binary_search_by_key(&budget, |line| line.budget);
+        found.ok().map(|at| &lines[at])
+    }
+
+    /// What a budget has left at the period's last tick; none if that wasn't seen, or if it isn't live.
+    pub fn left_ns(&self, budget: ObjectId) -> Option<u64> {
+        let left_ns = &self.lists.left_ns;
+        let found = left_ns.binary_search_by_key(&budget, |(budget, _)| *budget);
+        found.ok().map(|at| left_ns[at].1.into())
     }
 
     /// What a budget did in the ms at this place; Off if it isn't known in the period.
@@ -136,10 +154,9 @@ impl Period {
 
     /// What a thread did in the ms at this place; Off if it isn't known in the period.
     pub fn thread_doing(&self, thread: ThreadId, place: usize) -> Doing {
-        let found = self
-            .threads
-            .binary_search_by_key(&thread, |line| line.thread);
-        found.map_or(Doing::Off, |at| self.threads[at].doings.get(place))
+        let lines = &self.lists.threads;
+        let found = lines.binary_search_by_key(&thread, |line| line.thread);
+        found.map_or(Doing::Off, |at| lines[at].doings.get(place))
     }
 
     pub fn is_seen(&self, place: usize) -> bool {
@@ -169,11 +186,17 @@ fn narrow(ns: u64) -> u32 {
 mod tests {
     use super::*;
 
-    /// What a timeline keeps of each period, and of each budget and thread in it.
     #[test]
     fn sizes() {
-        assert!(size_of::<Period>() <= 96);
-        assert!(size_of::<Line>() <= 24);
+        assert!(size_of::<Period>() <= 72);
+        assert_eq!(size_of::<Line>(), 16);
+    }
+
+    /// What a timeline keeps beside that of each period, and of each thread in it.
+    #[test]
+    fn sizes_of_lists() {
+        assert!(size_of::<Period>() + size_of::<Lists>() <= 128);
+        assert_eq!(size_of::<(ObjectId, u32)>(), 16);
         assert!(size_of::<ThreadLine>() <= 32);
     }
 }

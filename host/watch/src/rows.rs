@@ -126,19 +126,19 @@ impl<'a> Rows<'a> {
         for line in period.lines() {
             if let Some(row) = self.row_of.get(&line.budget) {
                 let part = parts.entry(*row).or_insert_with(|| Part::off(period));
-                part.add(&self.lane(number, line), period);
+                part.add(&self.lane(number, line, period), period);
             }
         }
         self.add_others(period, &mut parts);
         parts
     }
 
-    fn lane(&self, number: u64, line: &Line) -> Lane {
+    fn lane(&self, number: u64, line: &Line, period: &Period) -> Lane {
         Lane {
             doings: line.doings,
             next: self.timeline.behind(number, line.budget),
             share_ns: line.share_ns(),
-            left: line.left_ns().map_or(Left::Unknown, Left::Ns),
+            left: period.left_ns(line.budget).map_or(Left::Unknown, Left::Ns),
             without_account_ns: None,
         }
     }

@@ -71,11 +71,9 @@ impl<'a> Threads<'a> {
 
     fn lane(&self, number: u64, line: &ThreadLine, period: &Period) -> Lane {
         let account = line.budget.and_then(|budget| period.line(budget));
-        let left = match (line.budget, account) {
-            (None, _) => Left::Unlimited,
-            (Some(_), account) => account
-                .and_then(|line| line.left_ns())
-                .map_or(Left::Unknown, Left::Ns),
+        let left = match line.budget {
+            None => Left::Unlimited,
+            Some(budget) => period.left_ns(budget).map_or(Left::Unknown, Left::Ns),
         };
         Lane {
             doings: line.doings,

@@ -16,7 +16,7 @@ const EVENT_WIDTH: usize = 300;
 
 /// What was seen of a board, tick by tick.
 ///
-/// It keeps 96 bytes for each period of which a tick was seen, 24 for each budget in it, and 32 for
+/// It keeps 128 bytes for each period of which a tick was seen, 32 for each budget in it, and 32 for
 /// each thread.
 #[derive(Debug, Default)]
 pub struct Timeline {
