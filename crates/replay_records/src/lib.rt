@@ -4,7 +4,8 @@
 // which no contract could say anything.
 #![tactic(auto)]
 
-ghost use Rattle.std.specs.Prelude.{◌≡◌, ◌/◌, ◌≤◌, ◌<◌, length, drop};
+ghost use Rattle.std.specs.Prelude.{◌≡◌, ◌/◌, ◌≤◌, ◌<◌, length, take, drop};
+ghost use Rattle.std.specs.Io.KnownBytes.{Consumes};
 ghost use Rattle.replay_records.specs.Tally.{block_bytes, cut, started, added, Room};
 
 use std::io::Read;
@@ -44,7 +45,8 @@ fn block_bytes(size: usize) -> usize
 // Reads until buf is full, the input ends or a read fails, and says how many bytes it put at the start of buf. On an empty buf it makes
 // no call.
 fn read_full<R: Read>(input: &mut R, buf: &mut [u8]) -> usize
-    ensures { result ≤ length buf.new }
+    ensures bound { result ≤ length buf.new }
+    ensures bytes { Consumes (R.remaining input.old) (R.remaining input.new) (take result buf.new) }
 {
     let mut done = 0;
     while done < buf.len() {
@@ -58,12 +60,13 @@ fn read_full<R: Read>(input: &mut R, buf: &mut [u8]) -> usize
 }
 
 // Reads a block of records of `size` bytes from the input to the start of buf and says how many bytes it has. A read that fails counts
-// as the end of the input.
+// as the end of the input. Of an input whose bytes are known, just these are taken, in their order.
 pub fn read_block<R: Read>(input: &mut R, buf: &mut [u8], size: usize) -> usize
     requires size_nonzero { 0 < size }
     requires buf_len { length buf.old ≡ 65_536 }
     ensures upper_bound { (result ≤ 65_536) × (result ≤ block_bytes size) }
     ensures buf_unchanged { drop (block_bytes size) buf.new ≡ drop (block_bytes size) buf.old }
+    ensures bytes { Consumes (R.remaining input.old) (R.remaining input.new) (take result buf.new) }
 {
     let most = block_bytes(size);
     read_full(input, &mut buf[..most])
