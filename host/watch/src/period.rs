@@ -83,7 +83,7 @@ impl Period {
         }
     }
 
-    /// Notes what each budget has left, in place of what was noted before.
+    /// Notes what each budget has left, in place of what was noted before; the glimpse has them by rising id.
     fn note_left(&mut self, glimpse: &Glimpse) {
         let left_ns = &mut self.lists.left_ns;
         left_ns.clear();
@@ -91,7 +91,6 @@ impl Period {
         for seen in &glimpse.budgets {
             left_ns.extend(seen.left_ns.map(|left| (seen.budget, narrow(left))));
         }
-        left_ns.sort_unstable_by_key(|(budget, _)| *budget);
     }
 
     fn line_mut(&mut self, budget: ObjectId) -> &mut Line {

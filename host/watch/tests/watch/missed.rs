@@ -238,10 +238,12 @@ fn an_id_that_is_taken_again() {
     accepted(bench.board.kill(thread, Cause::Destroyed));
     bench.plan(14);
     bench.thread(7, two);
-    bench.tick(15..=29);
-    let threads = Threads::new(&bench.timeline);
-    let found = threads.threads().iter().find(|seen| seen.id == thread);
-    assert_eq!(found.and_then(|seen| seen.budget), Some(two));
+    for ticks in [15..=19, 20..=29] {
+        bench.tick(ticks);
+        let threads = Threads::new(&bench.timeline);
+        let found = threads.threads().iter().find(|seen| seen.id == thread);
+        assert_eq!(found.and_then(|seen| seen.budget), Some(two));
+    }
 }
 
 /// Of a period that was not seen as a whole nothing is the least.
@@ -408,7 +410,7 @@ fn charged_by_the_host() -> Result<(), Refusal> {
 #[test]
 fn a_budget_that_is_gone() {
     let mut bench = Bench::new();
-    let one = bench.service(4 * MS);
+    let [_, one, _] = [2, 4, 2].map(|ms| bench.service(ms * MS));
     accepted(bench.board.remove(one, carv::Nanoseconds(0)));
     bench.tick(0..=19);
     bench.timeline.end(&bench.board);
@@ -421,4 +423,22 @@ fn a_budget_that_is_gone() {
     assert_eq!((total.periods_judged, total.periods_held_back), (0, 2));
     let wait = total.longest_wait.expect("it waits");
     assert_eq!((wait.ms, wait.held_back_ms, wait.ran), (20, 20, false));
+}
+
+/// A thread that runs on without its budget has no outcome, and the budget has none.
+#[test]
+fn who_runs_on_without_its_budget() {
+    let mut bench = Bench::without_first();
+    let one = bench.service(4 * MS);
+    bench.plan(0);
+    bench.book(0);
+    accepted(bench.board.remove(one, carv::Nanoseconds(0)));
+    for n in 1..=9 {
+        bench.book(n);
+    }
+    bench.timeline.end(&bench.board);
+    let thread = ThreadId(100 + one.0);
+    assert_eq!(bench.timeline.thread_doing(thread, 9), Some(Doing::Runs));
+    assert_eq!(bench.total(one).periods_judged, 0);
+    assert_eq!(bench.thread_total(thread).periods_judged, 0);
 }

@@ -215,6 +215,19 @@ fn share_with_reserved() {
     assert_eq!(total.shares_ns, Some((3 * MS, 4 * MS)));
 }
 
+/// It counts also if it was lower first.
+#[test]
+fn share_that_rises_in_a_period() {
+    let mut bench = Bench::new();
+    let one = bench.service(6 * MS);
+    let child = bench.budget_of(one, 2 * MS);
+    bench.tick(10..=12);
+    accepted(bench.board.remove(child, carv::Nanoseconds(12 * MS)));
+    bench.tick(13..=20);
+    let shares = [1, 2].map(|period| bench.part(&label(one), period).share_ns / MS);
+    assert_eq!(shares, [6, 6]);
+}
+
 #[test]
 fn booked_less_than_a_tick() {
     let mut bench = Bench::without_first();

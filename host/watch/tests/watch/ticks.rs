@@ -4,7 +4,7 @@ use crate::bench::{Bench, MS, accepted};
 use crate::reading::label;
 use carv::{LAST_TICK, MOST_THREADS, ObjectId};
 use carv_watch::Doing::{HeldBack, Off, Runs, Sleeps, Waits};
-use carv_watch::{MOST_EVENTS, Rows, Timeline};
+use carv_watch::{MOST_EVENTS, Rows, Threads, Timeline};
 
 #[test]
 fn none() {
@@ -134,6 +134,22 @@ fn repeated_without_the_thread() {
     bench.book(3);
     assert_eq!(bench.timeline.thread_doing(thread, 3), Some(Off));
     assert_eq!(bench.doing(one, 3), Some(Sleeps));
+}
+
+/// Threads are by rising id, also where a lower one comes later in a period.
+#[test]
+fn a_lower_id_later_in_a_period() {
+    let mut bench = Bench::new();
+    let one = bench.budget(MS);
+    bench.thread(9, one);
+    bench.book(1);
+    let thread = bench.thread(7, one);
+    bench.book(2);
+    bench.book(3);
+    assert_eq!(bench.timeline.thread_doing(thread, 3), Some(Waits));
+    let parts = Threads::new(&bench.timeline).in_period(0);
+    let ids: Vec<u64> = parts.iter().map(|(thread, ..)| thread.0).collect();
+    assert_eq!(ids, [0, 7, 9]);
 }
 
 /// A period of which nothing is left with somebody live isn't one of being held back, though the ms
