@@ -43,11 +43,11 @@
  *
  * Stack, registers and the C library
  *
- * A call takes at most 18,272 bytes of stack, its return address included. docs/LAYOUT.md has the
+ * A call takes at most 18,096 bytes of stack, its return address included. docs/LAYOUT.md has the
  * figure of each function. Nothing calls itself, and nothing is written below the stack pointer:
  * there is no red zone.
  *
- * Of the C library only memcpy, memmove and memset are called. A kernel brings its own; the stack that
+ * Of the C library only memmove and memset are called. A kernel brings its own; the stack that
  * they take comes on top.
  *
  * The library uses the SSE registers and leaves them changed, as C's calling convention allows. It

@@ -1,14 +1,15 @@
 #!/usr/bin/env python3
 """Writes the board's entry points and C functions, or checks those that stand there.
 
-    tools/entries.py ENTRY_ANSWERS C_ANSWERS
+    tools/entries.py ANSWERS
     tools/entries.py --check
 
 The first writes the entry points of carv_scheduler (src/lib.rt), the functions of carv (src/lib.rt) and the C functions of carv_c
-(src/lib.rt), for the calls listed below, and the answers by which tools/prove.py proves the first two. In carv_scheduler and carv
+(src/lib.rt), for the calls listed below, and the answers by which tools/prove.py proves those of carv. In carv_scheduler and carv
 everything from the marker line to the end is replaced, in carv_c everything from its first C function on; what stands above is kept, and
 so are lines #[tactic(..)] of a function. A call: name, parameters after the area, definition, module of the inner function, does it only
-read, comment. Parameters of a struct's type are numbers in carv.
+read, type of its answer, what value this tells (specs/Answer.antt of carv_objects for the registry's calls, else of carv_scheduler),
+comment. Parameters of a struct's type are numbers in carv.
 
 The second writes nothing. It prints each function below a marker, and each of carv_c, that is not as it would be written, is missing or
 too much, and each of these disagreements between the functions of carv and `Ensures` in carv/specs/C.antt:
@@ -27,32 +28,30 @@ import sys
 
 ROOT = pathlib.Path(__file__).resolve().parent.parent
 REGISTRY, CALLS = 'registry', [
-    ('create', 'kind: u64, payer: u64, backing: bool', 'create', 'registry', False, 'A new object of this kind.'),
-    ('insert', 'kind: u64, payer: u64, bytes: u64', 'insert', 'registry', False, 'An object of this kind that takes this many bytes.'),
-    ('create_budget', 'parent: u64, cpu: u64, memory: u64, time: u64', 'create_budget', 'registry', False, 'A budget carved out of its parent.'),
-    ('charge_more', 'id: u64, bytes: u64', 'charge_more', 'registry', False, 'More bytes charged for an object.'),
-    ('uncharge', 'id: u64, bytes: u64', 'uncharge', 'registry', False, 'Bytes of an object credited.'),
-    ('remove', 'id: u64, time: u64', 'remove', 'registry', False, "An object taken out; a removed budget's payer is renewed at this time, before the child is returned."),
-    ('refill', 'id: u64, time: u64', 'refill', 'registry', False, 'The renewal of a budget.'),
-    ('charge_cpu', 'id: u64, ns: u64, time: u64', 'charge_cpu', 'registry', False, 'CPU time charged to a budget.'),
-    ('pays_for_anything', 'id: u64', 'pays_for_anything', 'registry', True, 'Does another object have this payer?'),
-    ('account', 'id: u64', 'read_account', 'registry', True, 'The account of a budget.'),
-    ('charge_of', 'id: u64', 'charge_of', 'registry', True, 'The payer and the charge of an object.'),
-    ('totals', 'id: u64', 'read_totals', 'registry', True, 'A budget with all below it, summed.'),
-    ('start', 'id: u64, space: u64, cspace: u64, root: u64, context: Context', 'start', 'calls', False, 'An Inactive thread is Ready.'),
-    ('block_current', 'kind: u64, number: u64', 'block_current', 'calls', False, 'The current thread is Blocked on this wait.'),
-    ('wake', 'id: u64, results: Results', 'wake', 'ticking', False, 'A Blocked thread is Ready, with these results.'),
-    ('is_blocked_on', 'id: u64, kind: u64, number: u64', 'is_blocked_on', 'calls', True, 'Is this thread Blocked on this wait?'),
-    ('kill', 'id: u64, cause: u64', 'kill', 'killing', False, 'A thread ends.'),
-    ('tick', 'n: u64', 'tick', 'ticking', False, 'The timer tick n.'),
-    ('plan', 'n: u64', 'plan', 'planning', False, 'The thread to run at tick n.'),
-    ('read_thread', 'id: u64', 'read_thread', 'calls', True, "A thread's record."),
-    ('current', '', 'read_current', 'calls', True, 'The current thread.'),
-    ('switches', '', 'read_switches', 'calls', True, 'How many context switches there were.'),
-    ('exit_of', 'id: u64', 'exit_of', 'exits', True, 'Why a thread ended, by the exit log.'),
+    ('create', 'kind: u64, payer: u64, backing: bool', 'create', 'registry', False, 'u64', 'id_of', 'A new object of this kind.'),
+    ('insert', 'kind: u64, payer: u64, bytes: u64', 'insert', 'registry', False, 'u64', 'id_of', 'An object of this kind that takes this many bytes.'),
+    ('create_budget', 'parent: u64, cpu: u64, memory: u64, time: u64', 'create_budget', 'registry', False, 'u64', 'id_of', 'A budget carved out of its parent.'),
+    ('charge_more', 'id: u64, bytes: u64', 'charge_more', 'registry', False, '()', 'nothing', 'More bytes charged for an object.'),
+    ('uncharge', 'id: u64, bytes: u64', 'uncharge', 'registry', False, '()', 'nothing', 'Bytes of an object credited.'),
+    ('remove', 'id: u64, time: u64', 'remove', 'registry', False, '()', 'nothing', "An object taken out; a removed budget's payer is renewed at this time, before the child is returned."),
+    ('refill', 'id: u64, time: u64', 'refill', 'registry', False, 'bool', 'renewed_of', 'The renewal of a budget.'),
+    ('charge_cpu', 'id: u64, ns: u64, time: u64', 'charge_cpu', 'registry', False, '()', 'nothing', 'CPU time charged to a budget.'),
+    ('pays_for_anything', 'id: u64', 'pays_for_anything', 'registry', True, 'bool', 'pays_of', 'Does another object have this payer?'),
+    ('account', 'id: u64', 'read_account', 'registry', True, 'Account', 'account_of', 'The account of a budget.'),
+    ('charge_of', 'id: u64', 'charge_of', 'registry', True, 'Charge', 'charge_of', 'The payer and the charge of an object.'),
+    ('totals', 'id: u64', 'read_totals', 'registry', True, 'Totals', 'totals_of', 'A budget with all below it, summed.'),
+    ('start', 'id: u64, space: u64, cspace: u64, root: u64, context: Context', 'start', 'calls', False, '()', 'nothing', 'An Inactive thread is Ready.'),
+    ('block_current', 'kind: u64, number: u64', 'block_current', 'calls', False, '()', 'nothing', 'The current thread is Blocked on this wait.'),
+    ('wake', 'id: u64, results: Results', 'wake', 'ticking', False, '()', 'nothing', 'A Blocked thread is Ready, with these results.'),
+    ('is_blocked_on', 'id: u64, kind: u64, number: u64', 'is_blocked_on', 'calls', True, 'bool', 'blocked_of', 'Is this thread Blocked on this wait?'),
+    ('kill', 'id: u64, cause: u64', 'kill', 'killing', False, 'Option<Wait>', 'ended_of', 'A thread ends.'),
+    ('tick', 'n: u64', 'tick', 'ticking', False, '()', 'nothing', 'The timer tick n.'),
+    ('plan', 'n: u64', 'plan', 'planning', False, 'Option<Switch>', 'switch_of', 'The thread to run at tick n.'),
+    ('read_thread', 'id: u64', 'read_thread', 'calls', True, 'Thread', 'thread_of', "A thread's record."),
+    ('current', '', 'read_current', 'calls', True, 'u64', 'word_of', 'The current thread.'),
+    ('switches', '', 'read_switches', 'calls', True, 'u64', 'word_of', 'How many context switches there were.'),
+    ('exit_of', 'id: u64', 'exit_of', 'exits', True, 'Option<Cause>', 'cause_of', 'Why a thread ended, by the exit log.'),
 ]
-# Where a registry call's definition stands, if not in Registry.antt.
-FILES = {'read_totals': 'Totals'}
 STRUCTS = {
     'Context': ['rip', 'rsp', 'rflags', 'rdi', 'rsi', 'cs', 'ss'],
     'Results': ['first', 'second', 'third'],
@@ -84,32 +83,20 @@ def argument(term):
     return '(%s)' % term if ' ' in term else term
 
 
-def entry(name, params, definition, module, reading, comment):
+def entry(name, params, definition, module, reading, answer, tells, comment):
     names = [p.split(':')[0] for p in params]
     call = ' '.join([definition] + names)
     spec = 'by_registry (%s)' % call if module == REGISTRY else call
+    told = 'in_board told.%s' % tells if module == REGISTRY else tells
     before, left = ('now', 'now') if reading else ('old', 'new')
     text = '\n// %s\n' % comment
-    text += signature('pub fn ' + name, ['area: &[u8]' if reading else 'area: &mut [u8]'] + params, 'Answer')
-    text += '    ensures { Answered %s area.%s result area.%s }\n' % (argument(spec), before, left)
-    text += '{\n    if !is_sound(area) {\n        return Answer::Refused(refused::UNSOUND);\n    }\n'
-    inner = '%s::%s(%s)' % (module, name, ', '.join(['area'] + names))
-    text += '    let answer = %s;\n    Answer::Registry(answer)\n}\n' % inner if module == REGISTRY else '    %s\n}\n' % inner
-    place = name + '-answer' if module == REGISTRY else name
-    answers = '== %s\nuse Rattle.carv_scheduler.specs.Laws.Entry.{entry_refused, entry_sound, entry_served}\n' % name
-    answers += 'use mathlib.Core.Path.{ap}\nuse mathlib.Core.Bool.{not}\n'
-    served = '@%s.ensures' % place
-    if module == REGISTRY:
-        answers += 'use Rattle.carv_scheduler.specs.Laws.OnRegistry.{registry_serves}\nuse Rattle.carv_objects_spec.specs.%s.{%s}\n' % (FILES.get(definition, 'Registry'), definition)
-        served = 'registry_serves (%s) _ _ _ %s' % (' '.join([definition] + ['%' + n for n in names]), served)
-        served = '(%s)' % served
-    answers += 'returns-then-not-is_sound := entry_refused _ _ _ @is_sound.ensures (ap not @if-not-is_sound.true)\n'
-    answers += '%s-requires := entry_sound _ _ @is_sound.ensures (ap not @if-not-is_sound.false)\n' % place
-    answers += 'returns := entry_served _ _ _ @is_sound.ensures (ap not @if-not-is_sound.false) _ _ %s\n' % served
-    return text, answers
+    text += signature('pub fn ' + name, ['area: &[u8]' if reading else 'area: &mut [u8]'] + params, 'Result<%s, Refusal>' % answer)
+    text += '    ensures { Answered %s %s area.%s result area.%s }\n' % (argument(spec), argument(told), before, left)
+    text += '{\n    ask_sound(area)?;\n    %s::%s(%s)\n}\n' % (module, name, ', '.join(['area'] + names))
+    return text, ''
 
 
-def c_function(name, params, definition, module, reading, comment):
+def c_function(name, params, definition, module, reading, answer, tells, comment):
     numbers, given, made, terms = [], [], '', []
     for p in params:
         n, kind = p.split(': ')
@@ -127,12 +114,10 @@ def c_function(name, params, definition, module, reading, comment):
     before, left = ('now', 'now') if reading else ('old', 'new')
     text = '\n' + signature('pub fn carv_' + name, ['area: &[u8]' if reading else 'area: &mut [u8]'] + numbers + ['out: &mut [u64]'], 'u64')
     text += '    ensures { Exported %s area.%s out.old result area.%s out.new }\n' % (argument(spec), before, left)
-    text += '{\n    if out.len() != WORDS {\n        return refused::UNSOUND;\n    }\n' + made
+    text += '{\n    if out.len() != WORDS {\n        return Refusal::Unsound.number();\n    }\n' + made
     text += '    let answer = carv_scheduler::%s(%s);\n    report(answer, out)\n}\n' % (name, ', '.join(['area'] + given))
-    answers = '== carv_%s\nuse Rattle.carv.proofs.Laws.Reporting.{returned_one, returned}\n' % name
-    answers += 'returns-then-out-ne-WORDS := returned_one _ _ _ @if-out-ne-WORDS.true\n'
-    answers += 'report-requires := @if-out-ne-WORDS.false\n'
-    answers += 'returns := returned _ _ _ @if-out-ne-WORDS.false _ _ @%s-answer.ensures _ _ @report.ensures\n' % name
+    answers = '== carv_%s\nuse Rattle.std.proofs.Common.{refl}\nuse Rattle.carv.proofs.Laws.Reporting.{returned}\n' % name
+    answers += 'returns := returned (λ x. refl) _ _ _ @if-out-ne-WORDS.false _ _ @%s-answer.ensures _ _ @report.ensures\n' % name
     return text, answers
 
 
@@ -264,14 +249,16 @@ def check():
 def main():
     if sys.argv[1:] == ['--check']:
         return check()
-    if len(sys.argv) != 3:
+    if len(sys.argv) != 2:
         sys.exit(__doc__)
-    for crate, mark, make, out in (('carv_scheduler', LIB_MARK, entry, sys.argv[1]), ('carv', C_MARK, c_function, sys.argv[2])):
+    told = []
+    for crate, mark, make in (('carv_scheduler', LIB_MARK, entry), ('carv', C_MARK, c_function)):
         path, above, below, made = generated(crate, mark, make)
         path.write_text(above + mark + with_tactics(''.join(text for text, _ in made), below))
-        pathlib.Path(out).write_text(''.join(told for _, told in made))
+        told += [answers for _, answers in made]
     path, above, below, written = exports((ROOT / 'crates/carv/src/lib.rt').read_text())
     path.write_text(above + with_tactics(written, below))
+    pathlib.Path(sys.argv[1]).write_text(''.join(told))
     return 0
 
 

@@ -1,17 +1,19 @@
 -- What a C function tells: the number of the answer is returned, and its values stand in the first of the 20 answer words. Assumes nothing.
-use Rattle.std.specs.Prelude.{◌≡◌, Bool, true, false, cond, ◌&&◌, List, [], ◌∷◌, ℕ, eqb, length, set}
+use Rattle.std.specs.Prelude.{◌≡◌, Bool, true, false, cond, ◌&&◌, List, [], ◌∷◌, ℕ, eqb, length, Option, Some, None, Result, Ok, Err}
 use Rattle.std.proofs.lemmas.List.Edits.{sets}
 use Rattle.carv_budget.specs.declared.Account.{Account}
 use Rattle.carv_objects_spec.specs.declared.Totals.{Totals}
-use Rattle.carv_objects.specs.declared.Answer as registry
-use Rattle.carv_objects.specs.declared.Answer.TheVariants as registry_answer
+use Rattle.carv_objects_spec.specs.Reply as objects
+use Rattle.carv_objects.specs.declared.refusal.Refusal.{Refusal}
+use Rattle.carv_objects.specs.Answer.{number}
+use Rattle.carv_scheduler_spec.specs.declared.Wait.{Wait}
 use Rattle.carv_scheduler_spec.specs.declared.Thread.{Thread}
-use Rattle.carv_scheduler.specs.declared.Answer.{Answer}
-use Rattle.carv_scheduler.specs.declared.Answer.TheVariants.{Done, Registry, NoSwitch, Switch, SwitchToKernel, Ended, EndedNothing, Blocked, NotBlocked, Record, Word, Cause, NoCause, Refused}
-use Rattle.carv_scheduler.specs.Answer.{number}
-use Rattle.carv_scheduler_spec.specs.Scheduler.{Board, BoardReply}
+use Rattle.carv_scheduler_spec.specs.Scheduler.{Board, BoardReply, Value, of_registry, no_switch, switch, ended, is_blocked, record_of, word, exit_cause, kind_of, number_of}
+use Rattle.carv_scheduler_spec.specs.declared.Cause.{Cause}
+use Rattle.carv_scheduler_spec.specs.Codes.{is_word, state_word, kind_word, number_word, id_word, space_word, cspace_word, root_word, cause_word}
 use Rattle.carv_scheduler_spec.specs.Book.{Call, on_objects, create_user_thread, start, block_current, wake, is_blocked_on, kill, tick, plan, read_thread, read_current, read_switches, exit_of}
 use Rattle.carv_scheduler_spec.specs.Runs.{run}
+use Rattle.carv_scheduler.specs.Answer.{nothing}
 use Rattle.carv_scheduler.specs.Area.{Answered, Opened}
 use Rattle.carv_scheduler.specs.Creating.{Created}
 
@@ -24,63 +26,91 @@ account_words a =
 abbrev pub totals_words : Totals → List ℕ
 totals_words t = t.memory_used ∷ t.memory_free ∷ t.cpu_left ∷ []
 
--- the words of a thread record
+-- the words of a thread record, as they are stored
 abbrev pub record_words : Thread → List ℕ
 record_words t =
-    t.state ∷ t.wait.kind ∷ t.wait.number ∷ t.budget.is ∷ t.budget.id ∷ t.spaces.is ∷ t.spaces.space ∷ t.spaces.cspace ∷ t.spaces.root
+    state_word t.state ∷ kind_word t.state ∷ number_word t.state ∷ is_word t.budget ∷ id_word t.budget
+    ∷ is_word t.spaces ∷ space_word t.spaces ∷ cspace_word t.spaces ∷ root_word t.spaces
     ∷ t.context.rip ∷ t.context.rsp ∷ t.context.rflags ∷ t.context.rdi ∷ t.context.rsi ∷ t.context.cs ∷ t.context.ss
     ∷ t.results.first ∷ t.results.second ∷ t.results.third ∷ t.ticks ∷ []
 
--- the answer words out with the values of a registry's answer: an id; 1 or 0 for yes or no; the seven figures; a payer and a charge;
--- the three totals
-abbrev pub registry_reported : registry.Answer → List ℕ → List ℕ
-registry_reported registry_answer.Done out = out
-registry_reported (registry_answer.Id i) out = set out 0 i
-registry_reported registry_answer.Renewed out = set out 0 1
-registry_reported registry_answer.NotDue out = set out 0 0
-registry_reported registry_answer.Pays out = set out 0 1
-registry_reported registry_answer.PaysNothing out = set out 0 0
-registry_reported (registry_answer.AccountOf a) out = sets out 0 (account_words a)
-registry_reported (registry_answer.Charge p n) out = sets out 0 (p ∷ n ∷ [])
-registry_reported (registry_answer.TotalsOf t) out = sets out 0 (totals_words t)
-registry_reported (registry_answer.Refused n) out = out
+-- yes or no
+abbrev pub bit : Bool → ℕ
+bit true = 1
+bit false = 0
 
--- and of the board's: a switch is 1, the old id, the new id, and 1 and the root, or 0 for the kernel's; a wait that was ended is its kind and number, or 0 and 0; a cause,
--- or 0. A refusal writes nothing
-abbrev pub reported : Answer → List ℕ → List ℕ
-reported Done out = out
-reported (Registry r) out = registry_reported r out
-reported NoSwitch out = set out 0 0
-reported (Switch old new root) out = sets out 0 (1 ∷ old ∷ new ∷ 1 ∷ root ∷ [])
-reported (SwitchToKernel old new) out = sets out 0 (1 ∷ old ∷ new ∷ 0 ∷ [])
-reported (Ended w) out = sets out 0 (w.kind ∷ w.number ∷ [])
-reported EndedNothing out = sets out 0 (0 ∷ 0 ∷ [])
-reported Blocked out = set out 0 1
-reported NotBlocked out = set out 0 0
-reported (Record t) out = sets out 0 (record_words t)
-reported (Word n) out = set out 0 n
-reported (Cause n) out = set out 0 n
-reported NoCause out = set out 0 0
-reported (Refused n) out = out
+-- the words of a value of the registry: an id; 1 or 0 for yes or no; the seven figures; a payer and a charge; the three totals
+abbrev pub registry_words : objects.Value → List ℕ
+registry_words (objects.id i) = i ∷ []
+registry_words (objects.renewed b) = bit b ∷ []
+registry_words (objects.pays b) = bit b ∷ []
+registry_words (objects.of_account a) = account_words a
+registry_words (objects.charge p n) = p ∷ n ∷ []
+registry_words (objects.of_totals t) = totals_words t
+
+-- a page-table root is 1 and the root, or 0 for the kernel's
+abbrev pub root_words : Option ℕ → List ℕ
+root_words (Some root) = 1 ∷ root ∷ []
+root_words None = 0 ∷ []
+
+-- a wait that was ended is its kind and number, or 0 and 0
+abbrev pub ended_words : Option Wait → List ℕ
+ended_words (Some w) = kind_of w ∷ number_of w ∷ []
+ended_words None = 0 ∷ 0 ∷ []
+
+-- a cause, or 0
+abbrev pub cause_words : Option Cause → List ℕ
+cause_words (Some c) = cause_word c ∷ []
+cause_words None = 0 ∷ []
+
+-- and of the board's: a switch is 1, the old id, the new id, and the root
+abbrev pub value_words : Value → List ℕ
+value_words (of_registry v) = registry_words v
+value_words no_switch = 0 ∷ []
+value_words (switch old new root) = 1 ∷ old ∷ new ∷ root_words root
+value_words (ended w) = ended_words w
+value_words (is_blocked b) = bit b ∷ []
+value_words (record_of t) = record_words t
+value_words (word n) = n ∷ []
+value_words (exit_cause c) = cause_words c
+
+-- no value, no word
+abbrev pub told_words : Option Value → List ℕ
+told_words (Some v) = value_words v
+told_words None = []
+
+-- the answer words out with the words of an accepted answer. A refusal writes nothing
+abbrev pub written : {T : Type 0} → (T → List ℕ) → Result T Refusal → List ℕ → List ℕ
+written words (Ok x) out = sets out 0 (words x)
+written words (Err n) out = out
+
+-- the same by the values that the answer tells
+abbrev pub reported : {T : Type 0} → (T → Option Value) → Result T Refusal → List ℕ → List ℕ
+reported tells (Ok x) out = sets out 0 (told_words (tells x))
+reported tells (Err n) out = out
+
+-- a value tells itself
+abbrev pub itself : Option Value → Option Value
+itself v = v
 
 -- an answer of which `says` holds, in the returned number r and in the answer words out'
-pub record Reports (says : Answer → List ℕ → Type 0) (out : List ℕ) (r : ℕ) (a' out' : List ℕ) : Type 0 where
-  pub answer : Answer
+pub record Reports {T : Type 0} (tells : T → Option Value) (says : Result T Refusal → List ℕ → Type 0) (out : List ℕ) (r : ℕ) (a' out' : List ℕ) : Type 0 where
+  pub answer : Result T Refusal
   pub said : says answer a'
   pub number : r ≡ number answer
-  pub values : out' ≡ reported answer out
+  pub values : out' ≡ reported tells answer out
 
 -- What a C function returns, r, and leaves, a' and out', of the area a and the answer words out: other than 20 answer words are refused with 1, and nothing changes
-pub record Returns (says : Answer → List ℕ → Type 0) (a out : List ℕ) (r : ℕ) (a' out' : List ℕ) : Type 0 where
+pub record Returns {T : Type 0} (tells : T → Option Value) (says : Result T Refusal → List ℕ → Type 0) (a out : List ℕ) (r : ℕ) (a' out' : List ℕ) : Type 0 where
   pub size : eqb (length out) 20 ≡ false → (r ≡ 1) × (a' ≡ a) × (out' ≡ out)
-  pub reports : eqb (length out) 20 ≡ true → Reports says out r a' out'
+  pub reports : eqb (length out) 20 ≡ true → Reports tells says out r a' out'
 
--- of a call, and of an opening
+-- of a call, whose answer is told by its value, and of an opening
 abbrev pub Called : (Board → BoardReply) → (a out : List ℕ) (r : ℕ) (a' out' : List ℕ) → Type 0
-Called call a = Returns (Answered call a) a
+Called call a = Returns itself (Answered call itself a) a
 
 abbrev pub Opens : (cpu memory : ℕ) (a out : List ℕ) (r : ℕ) (a' out' : List ℕ) → Type 0
-Opens cpu memory a = Returns (Opened cpu memory a) a
+Opens cpu memory a = Returns nothing (Opened cpu memory a) a
 
 -- The calls.
 
@@ -91,7 +121,7 @@ Exported c = Called (run c)
 -- `carv_create_user_thread`, which is lent a register image m as well: other than 20 answer words are refused with 1, and nothing changes
 pub record CreatesInC (call : Board → BoardReply) (a m out : List ℕ) (r : ℕ) (a' m' out' : List ℕ) : Type 0 where
   pub size : eqb (length out) 20 ≡ false → (r ≡ 1) × (a' ≡ a) × (m' ≡ m) × (out' ≡ out)
-  pub reports : eqb (length out) 20 ≡ true → Reports (λ x b. Created call a m x b m') out r a' out'
+  pub reports : eqb (length out) 20 ≡ true → Reports nothing (λ x b. Created call a m x b m') out r a' out'
 
 abbrev pub ExportedWithImage : Call → (a m out : List ℕ) (r : ℕ) (a' m' out' : List ℕ) → Type 0
 ExportedWithImage c = CreatesInC (run c)

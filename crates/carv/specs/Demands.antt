@@ -1,8 +1,7 @@
 -- The three demands, over areas of bytes and the exported C functions: the file to open first. `Demand1`, `Demand2` and `Demand3` are the statements; the files of
 -- these names in laws/ prove them. `Ensures` (C.antt) is what the C function of each call in src/lib.rt ensures; a list of calls is run on an area from an accepted opening, each on the area that the last
 -- one left. Assumes nothing.
-use Rattle.std.specs.Prelude.{◌≡◌, Bool, true, false, cond, ◌&&◌, List, [], ◌∷◌, ◌++◌, map, ℕ, ◌^◌, ◌<◌, eqb, leb, length, get_or}
-use Rattle.std.proofs.Math.Option.{none, some}
+use Rattle.std.specs.Prelude.{◌≡◌, Bool, true, false, cond, ◌&&◌, List, [], ◌∷◌, ◌++◌, map, ℕ, ◌^◌, ◌<◌, eqb, leb, length, get_or, Option, Some, None, Result}
 use Rattle.carv_budget.specs.Account.{period}
 use Rattle.carv_budget.specs.Panics.{AllPass}
 use Rattle.carv_objects_spec.specs.Registry.{is_budget}
@@ -11,13 +10,14 @@ use Rattle.carv_objects_spec.specs.Book as objects
 use Rattle.carv_objects_spec.specs.Book.{Differences, is_live, budget_of}
 use Rattle.carv_objects_spec.specs.BookTotals.{totals_of}
 use Rattle.carv_objects_spec.specs.Reply.{accept, of_totals}
-use Rattle.carv_scheduler.specs.declared.Answer.{Answer}
-use Rattle.carv_scheduler.specs.Answer.{number, value}
-use Rattle.carv_scheduler_spec.specs.Scheduler.{Board, BoardReply, opening, of_registry}
+use Rattle.carv_objects.specs.declared.refusal.Refusal.{Refusal}
+use Rattle.carv_objects.specs.Answer.{number}
+use Rattle.carv_scheduler.specs.Answer.{value}
+use Rattle.carv_scheduler_spec.specs.Scheduler.{Board, BoardReply, Value, opening, of_registry}
 use Rattle.carv_scheduler.specs.Area.{decode, sound_area, Is}
 use Rattle.carv_register_image.specs.Image.{register_image}
 use Rattle.carv_scheduler.specs.Image.{Filled}
-use Rattle.carv.specs.C.{reported, Opens, has_image, Made, Ensures, lent}
+use Rattle.carv.specs.C.{itself, reported, Opens, has_image, Made, Ensures, lent}
 use Rattle.carv_scheduler_spec.specs.Book as book
 use Rattle.carv_scheduler_spec.specs.Book.{Book, on_objects, plan}
 use Rattle.carv_scheduler_spec.specs.Runs.{run, Numbered, write_all, Fits}
@@ -38,11 +38,11 @@ last (e ∷ es) a = last es e.left
 
 -- The call e was answered as z: its number, its value in the answer words, and the area that it left is the sound one that says z's board.
 pub record GivenAs (e : Made) (z : BoardReply) : Type 0 where
-  pub answer : Answer
+  pub answer : Result (Option Value) Refusal
   pub returned : e.returned ≡ number answer
   pub number : e.returned ≡ z.number
-  pub value : value answer ≡ z.value
-  pub written : e.words' ≡ reported answer e.words
+  pub value : value itself answer ≡ z.value
+  pub written : e.words' ≡ reported itself answer e.words
   pub area : Is e.left z.after
 
 -- refused with 1, and nothing changed
@@ -64,8 +64,8 @@ Bytes a = (i : ℕ) → get_or a i 0 < 256
 pub record NothingWritten (a : List ℕ) (e : Made) : Type 0 where
   pub words : e.words' ≡ e.words
   pub image : e.image' ≡ e.image
-  pub area : renewal_left e.call e.returned (decode a) ≡ none → e.left ≡ a
-  pub renewed : (i time : ℕ) → renewal_left e.call e.returned (decode a) ≡ some (i, time)
+  pub area : renewal_left e.call e.returned (decode a) ≡ None → e.left ≡ a
+  pub renewed : (i time : ℕ) → renewal_left e.call e.returned (decode a) ≡ Some (i, time)
       → (r : Made) → r.call ≡ on_objects (objects.refill i time) → lent r ≡ true → Ensures a r → Bytes r.left → e.left ≡ r.left
 
 -- of each call on any bytes a
@@ -158,7 +158,7 @@ pub record ByTheBook (es : List Made) (a : List ℕ) (cpu memory : ℕ) : Type 0
       × (figures_of (booked es cpu memory) i ≡ figures_of (booked es' cpu' memory') i → line_of (decode (last es a)) i ≡ line_of (decode (last es' a')) i)
   -- P1: wherever the list has a reading of totals that is accepted, it answers the totals of the book's figures, and leaves the board
   pub totals : (front rest : List Made) (e : Made) (i : ℕ) → es ≡ front ++ (e ∷ rest) → e.call ≡ on_objects (objects.read_totals i) → e.returned ≡ 0
-      → GivenAs e (accept (some (of_registry (of_totals (totals_of (booked front cpu memory).objects i)))) (decode (last front a)))
+      → GivenAs e (accept (Some (of_registry (of_totals (totals_of (booked front cpu memory).objects i)))) (decode (last front a)))
   -- wherever the list has a planning that is accepted: `Planned` (Demand3.antt) says which thread runs and what is answered, by the book before it
   pub plannings : (front rest : List Made) (e : Made) (n : ℕ) → es ≡ front ++ (e ∷ rest) → e.call ≡ plan n → e.returned ≡ 0
       → (z : BoardReply) × (GivenAs e z × Planned n (booked front cpu memory) z)

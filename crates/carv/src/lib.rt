@@ -2,187 +2,45 @@
 // first answer words. specs/C.antt says which.
 #![tactic(auto)]
 
+mod words;
+
 ghost use Rattle.std.specs.Prelude.{◌≡◌, length};
-ghost use Rattle.std.proofs.lemmas.List.Edits.{sets};
-ghost use Rattle.carv_objects.specs.Answer as registry;
 ghost use Rattle.carv_objects_spec.specs.Book as objects;
+ghost use Rattle.carv_objects.specs.Answer.{number};
 ghost use Rattle.carv_scheduler_spec.specs.Book.{on_objects, create_user_thread, start, block_current, wake, is_blocked_on, kill, tick, plan, read_thread, read_current, read_switches, exit_of};
-ghost use Rattle.carv_scheduler.specs.Answer.{number};
 ghost use Rattle.carv_scheduler.specs.Area.{sound_area};
 ghost use Rattle.carv_scheduler.specs.Image.{Filled};
-ghost use Rattle.carv.specs.C.{account_words, totals_words, record_words, registry_reported, reported, Exported, ExportedWithImage, Opens};
+ghost use Rattle.carv.specs.C.{written, Exported, ExportedWithImage, Opens};
 
-use carv_budget::Account;
-use carv_objects::refused;
-use carv_objects_spec::Totals;
-use carv_scheduler::{ACCEPTED, Answer};
-use carv_scheduler_spec::{Context, Results, Thread};
+use carv_objects::Refusal;
+use carv_scheduler_spec::{Context, Results};
+use words::{Reported, WORDS};
 
-// How many answer words there are.
-const WORDS: usize = 20;
+// The number of an accepted call.
+const ACCEPTED: u64 = 0;
 
-// An account in the answer words: its limits, start and line.
-fn write_account(out: &mut [u64], a: Account)
+// An answer's number, and its words in the answer words.
+fn report<T: Reported>(answer: Result<T, Refusal>, out: &mut [u64]) -> u64
     requires { length out.old ≡ 20 }
-    ensures { out.new ≡ sets out.old 0 (account_words a) }
-{
-    out[0] = a.cpu_allowance;
-    out[1] = a.memory_limit;
-    out[2] = a.period_start;
-    out[3] = a.cpu_left;
-    out[4] = a.cpu_reserved;
-    out[5] = a.memory_used;
-    out[6] = a.memory_reserved;
-}
-
-// The totals of a budget in the answer words.
-fn write_totals(out: &mut [u64], t: Totals)
-    requires { length out.old ≡ 20 }
-    ensures { out.new ≡ sets out.old 0 (totals_words t) }
-{
-    out[0] = t.memory_used;
-    out[1] = t.memory_free;
-    out[2] = t.cpu_left;
-}
-
-// A thread record in the answer words.
-fn write_record(out: &mut [u64], t: Thread)
-    requires { length out.old ≡ 20 }
-    ensures { out.new ≡ sets out.old 0 (record_words t) }
-{
-    let wait = t.wait;
-    let budget = t.budget;
-    let spaces = t.spaces;
-    let context = t.context;
-    let results = t.results;
-    out[0] = t.state;
-    out[1] = wait.kind;
-    out[2] = wait.number;
-    out[3] = budget.is;
-    out[4] = budget.id;
-    out[5] = spaces.is;
-    out[6] = spaces.space;
-    out[7] = spaces.cspace;
-    out[8] = spaces.root;
-    out[9] = context.rip;
-    out[10] = context.rsp;
-    out[11] = context.rflags;
-    out[12] = context.rdi;
-    out[13] = context.rsi;
-    out[14] = context.cs;
-    out[15] = context.ss;
-    out[16] = results.first;
-    out[17] = results.second;
-    out[18] = results.third;
-    out[19] = t.ticks;
-}
-
-// The number of an answer of the registry, and its values in the answer words.
-fn report_registry(answer: carv_objects::Answer, out: &mut [u64]) -> u64
-    requires { length out.old ≡ 20 }
-    ensures { (result ≡ registry.number answer) × (out.new ≡ registry_reported answer out.old) }
+    ensures { (result ≡ number answer) × (out.new ≡ written T.words answer out.old) }
 {
     match answer {
-        carv_objects::Answer::Done => ACCEPTED,
-        carv_objects::Answer::Id(id) => {
-            out[0] = id;
+        Ok(told) => {
+            told.write(out);
             ACCEPTED
         }
-        carv_objects::Answer::Renewed => {
-            out[0] = 1;
-            ACCEPTED
-        }
-        carv_objects::Answer::NotDue => {
-            out[0] = 0;
-            ACCEPTED
-        }
-        carv_objects::Answer::Pays => {
-            out[0] = 1;
-            ACCEPTED
-        }
-        carv_objects::Answer::PaysNothing => {
-            out[0] = 0;
-            ACCEPTED
-        }
-        carv_objects::Answer::AccountOf(account) => {
-            write_account(out, account);
-            ACCEPTED
-        }
-        carv_objects::Answer::Charge(payer, bytes) => {
-            out[0] = payer;
-            out[1] = bytes;
-            ACCEPTED
-        }
-        carv_objects::Answer::TotalsOf(totals) => {
-            write_totals(out, totals);
-            ACCEPTED
-        }
-        carv_objects::Answer::Refused(number) => number,
+        Err(refusal) => refusal.number(),
     }
 }
 
-// An answer's number, and its values in the answer words.
-fn report(answer: Answer, out: &mut [u64]) -> u64
-    requires { length out.old ≡ 20 }
-    ensures { (result ≡ number answer) × (out.new ≡ reported answer out.old) }
+// The number of an answer that has no words.
+fn number_of(answer: Result<(), Refusal>) -> u64
+    ensures { result ≡ number answer }
 {
-    match answer {
-        Answer::Done => ACCEPTED,
-        Answer::Registry(answer) => report_registry(answer, out),
-        Answer::NoSwitch => {
-            out[0] = 0;
-            ACCEPTED
-        }
-        Answer::Switch(old, new, root) => {
-            out[0] = 1;
-            out[1] = old;
-            out[2] = new;
-            out[3] = 1;
-            out[4] = root;
-            ACCEPTED
-        }
-        Answer::SwitchToKernel(old, new) => {
-            out[0] = 1;
-            out[1] = old;
-            out[2] = new;
-            out[3] = 0;
-            ACCEPTED
-        }
-        Answer::Ended(wait) => {
-            out[0] = wait.kind;
-            out[1] = wait.number;
-            ACCEPTED
-        }
-        Answer::EndedNothing => {
-            out[0] = 0;
-            out[1] = 0;
-            ACCEPTED
-        }
-        Answer::Blocked => {
-            out[0] = 1;
-            ACCEPTED
-        }
-        Answer::NotBlocked => {
-            out[0] = 0;
-            ACCEPTED
-        }
-        Answer::Record(thread) => {
-            write_record(out, thread);
-            ACCEPTED
-        }
-        Answer::Word(n) => {
-            out[0] = n;
-            ACCEPTED
-        }
-        Answer::Cause(cause) => {
-            out[0] = cause;
-            ACCEPTED
-        }
-        Answer::NoCause => {
-            out[0] = 0;
-            ACCEPTED
-        }
-        Answer::Refused(number) => number,
+    if let Err(refusal) = answer {
+        refusal.number()
+    } else {
+        ACCEPTED
     }
 }
 
@@ -195,14 +53,14 @@ pub fn carv_is_sound(area: &[u8]) -> bool
 pub fn carv_image(image: &mut [u8]) -> u64
     ensures { Filled image.old result image.new }
 {
-    carv_scheduler::write_image(image)
+    number_of(carv_scheduler::write_image(image))
 }
 
 pub fn carv_open(area: &mut [u8], cpu: u64, memory: u64, out: &mut [u64]) -> u64
     ensures { Opens cpu memory area.old out.old result area.new out.new }
 {
     if out.len() != WORDS {
-        return refused::UNSOUND;
+        return Refusal::Unsound.number();
     }
     let answer = carv_scheduler::open(area, cpu, memory);
     report(answer, out)
@@ -219,7 +77,7 @@ pub fn carv_create_user_thread(
     ensures { ExportedWithImage (create_user_thread id budget stack) area.old image.old out.old result area.new image.new out.new }
 {
     if out.len() != WORDS {
-        return refused::UNSOUND;
+        return Refusal::Unsound.number();
     }
     let answer = carv_scheduler::create_user_thread(area, id, budget, stack, image);
     report(answer, out)
@@ -232,7 +90,7 @@ pub fn carv_create(area: &mut [u8], kind: u64, payer: u64, backing: bool, out: &
     ensures { Exported (on_objects (objects.create kind payer backing)) area.old out.old result area.new out.new }
 {
     if out.len() != WORDS {
-        return refused::UNSOUND;
+        return Refusal::Unsound.number();
     }
     let answer = carv_scheduler::create(area, kind, payer, backing);
     report(answer, out)
@@ -242,7 +100,7 @@ pub fn carv_insert(area: &mut [u8], kind: u64, payer: u64, bytes: u64, out: &mut
     ensures { Exported (on_objects (objects.insert kind payer bytes)) area.old out.old result area.new out.new }
 {
     if out.len() != WORDS {
-        return refused::UNSOUND;
+        return Refusal::Unsound.number();
     }
     let answer = carv_scheduler::insert(area, kind, payer, bytes);
     report(answer, out)
@@ -259,7 +117,7 @@ pub fn carv_create_budget(
     ensures { Exported (on_objects (objects.create_budget parent cpu memory time)) area.old out.old result area.new out.new }
 {
     if out.len() != WORDS {
-        return refused::UNSOUND;
+        return Refusal::Unsound.number();
     }
     let answer = carv_scheduler::create_budget(area, parent, cpu, memory, time);
     report(answer, out)
@@ -269,7 +127,7 @@ pub fn carv_charge_more(area: &mut [u8], id: u64, bytes: u64, out: &mut [u64]) -
     ensures { Exported (on_objects (objects.charge_more id bytes)) area.old out.old result area.new out.new }
 {
     if out.len() != WORDS {
-        return refused::UNSOUND;
+        return Refusal::Unsound.number();
     }
     let answer = carv_scheduler::charge_more(area, id, bytes);
     report(answer, out)
@@ -279,7 +137,7 @@ pub fn carv_uncharge(area: &mut [u8], id: u64, bytes: u64, out: &mut [u64]) -> u
     ensures { Exported (on_objects (objects.uncharge id bytes)) area.old out.old result area.new out.new }
 {
     if out.len() != WORDS {
-        return refused::UNSOUND;
+        return Refusal::Unsound.number();
     }
     let answer = carv_scheduler::uncharge(area, id, bytes);
     report(answer, out)
@@ -289,7 +147,7 @@ pub fn carv_remove(area: &mut [u8], id: u64, time: u64, out: &mut [u64]) -> u64
     ensures { Exported (on_objects (objects.remove id time)) area.old out.old result area.new out.new }
 {
     if out.len() != WORDS {
-        return refused::UNSOUND;
+        return Refusal::Unsound.number();
     }
     let answer = carv_scheduler::remove(area, id, time);
     report(answer, out)
@@ -299,7 +157,7 @@ pub fn carv_refill(area: &mut [u8], id: u64, time: u64, out: &mut [u64]) -> u64
     ensures { Exported (on_objects (objects.refill id time)) area.old out.old result area.new out.new }
 {
     if out.len() != WORDS {
-        return refused::UNSOUND;
+        return Refusal::Unsound.number();
     }
     let answer = carv_scheduler::refill(area, id, time);
     report(answer, out)
@@ -309,7 +167,7 @@ pub fn carv_charge_cpu(area: &mut [u8], id: u64, ns: u64, time: u64, out: &mut [
     ensures { Exported (on_objects (objects.charge_cpu id ns time)) area.old out.old result area.new out.new }
 {
     if out.len() != WORDS {
-        return refused::UNSOUND;
+        return Refusal::Unsound.number();
     }
     let answer = carv_scheduler::charge_cpu(area, id, ns, time);
     report(answer, out)
@@ -319,7 +177,7 @@ pub fn carv_pays_for_anything(area: &[u8], id: u64, out: &mut [u64]) -> u64
     ensures { Exported (on_objects (objects.pays_for_anything id)) area.now out.old result area.now out.new }
 {
     if out.len() != WORDS {
-        return refused::UNSOUND;
+        return Refusal::Unsound.number();
     }
     let answer = carv_scheduler::pays_for_anything(area, id);
     report(answer, out)
@@ -329,7 +187,7 @@ pub fn carv_account(area: &[u8], id: u64, out: &mut [u64]) -> u64
     ensures { Exported (on_objects (objects.read_account id)) area.now out.old result area.now out.new }
 {
     if out.len() != WORDS {
-        return refused::UNSOUND;
+        return Refusal::Unsound.number();
     }
     let answer = carv_scheduler::account(area, id);
     report(answer, out)
@@ -339,7 +197,7 @@ pub fn carv_charge_of(area: &[u8], id: u64, out: &mut [u64]) -> u64
     ensures { Exported (on_objects (objects.charge_of id)) area.now out.old result area.now out.new }
 {
     if out.len() != WORDS {
-        return refused::UNSOUND;
+        return Refusal::Unsound.number();
     }
     let answer = carv_scheduler::charge_of(area, id);
     report(answer, out)
@@ -349,7 +207,7 @@ pub fn carv_totals(area: &[u8], id: u64, out: &mut [u64]) -> u64
     ensures { Exported (on_objects (objects.read_totals id)) area.now out.old result area.now out.new }
 {
     if out.len() != WORDS {
-        return refused::UNSOUND;
+        return Refusal::Unsound.number();
     }
     let answer = carv_scheduler::totals(area, id);
     report(answer, out)
@@ -373,7 +231,7 @@ pub fn carv_start(
     ensures { Exported (start id space cspace root (record { rip = rip; rsp = rsp; rflags = rflags; rdi = rdi; rsi = rsi; cs = cs; ss = ss })) area.old out.old result area.new out.new }
 {
     if out.len() != WORDS {
-        return refused::UNSOUND;
+        return Refusal::Unsound.number();
     }
     let context = Context {
         rip,
@@ -392,7 +250,7 @@ pub fn carv_block_current(area: &mut [u8], kind: u64, number: u64, out: &mut [u6
     ensures { Exported (block_current kind number) area.old out.old result area.new out.new }
 {
     if out.len() != WORDS {
-        return refused::UNSOUND;
+        return Refusal::Unsound.number();
     }
     let answer = carv_scheduler::block_current(area, kind, number);
     report(answer, out)
@@ -409,7 +267,7 @@ pub fn carv_wake(
     ensures { Exported (wake id (record { first = first; second = second; third = third })) area.old out.old result area.new out.new }
 {
     if out.len() != WORDS {
-        return refused::UNSOUND;
+        return Refusal::Unsound.number();
     }
     let results = Results {
         first,
@@ -424,7 +282,7 @@ pub fn carv_is_blocked_on(area: &[u8], id: u64, kind: u64, number: u64, out: &mu
     ensures { Exported (is_blocked_on id kind number) area.now out.old result area.now out.new }
 {
     if out.len() != WORDS {
-        return refused::UNSOUND;
+        return Refusal::Unsound.number();
     }
     let answer = carv_scheduler::is_blocked_on(area, id, kind, number);
     report(answer, out)
@@ -434,7 +292,7 @@ pub fn carv_kill(area: &mut [u8], id: u64, cause: u64, out: &mut [u64]) -> u64
     ensures { Exported (kill id cause) area.old out.old result area.new out.new }
 {
     if out.len() != WORDS {
-        return refused::UNSOUND;
+        return Refusal::Unsound.number();
     }
     let answer = carv_scheduler::kill(area, id, cause);
     report(answer, out)
@@ -444,7 +302,7 @@ pub fn carv_tick(area: &mut [u8], n: u64, out: &mut [u64]) -> u64
     ensures { Exported (tick n) area.old out.old result area.new out.new }
 {
     if out.len() != WORDS {
-        return refused::UNSOUND;
+        return Refusal::Unsound.number();
     }
     let answer = carv_scheduler::tick(area, n);
     report(answer, out)
@@ -454,7 +312,7 @@ pub fn carv_plan(area: &mut [u8], n: u64, out: &mut [u64]) -> u64
     ensures { Exported (plan n) area.old out.old result area.new out.new }
 {
     if out.len() != WORDS {
-        return refused::UNSOUND;
+        return Refusal::Unsound.number();
     }
     let answer = carv_scheduler::plan(area, n);
     report(answer, out)
@@ -464,7 +322,7 @@ pub fn carv_read_thread(area: &[u8], id: u64, out: &mut [u64]) -> u64
     ensures { Exported (read_thread id) area.now out.old result area.now out.new }
 {
     if out.len() != WORDS {
-        return refused::UNSOUND;
+        return Refusal::Unsound.number();
     }
     let answer = carv_scheduler::read_thread(area, id);
     report(answer, out)
@@ -474,7 +332,7 @@ pub fn carv_current(area: &[u8], out: &mut [u64]) -> u64
     ensures { Exported read_current area.now out.old result area.now out.new }
 {
     if out.len() != WORDS {
-        return refused::UNSOUND;
+        return Refusal::Unsound.number();
     }
     let answer = carv_scheduler::current(area);
     report(answer, out)
@@ -484,7 +342,7 @@ pub fn carv_switches(area: &[u8], out: &mut [u64]) -> u64
     ensures { Exported read_switches area.now out.old result area.now out.new }
 {
     if out.len() != WORDS {
-        return refused::UNSOUND;
+        return Refusal::Unsound.number();
     }
     let answer = carv_scheduler::switches(area);
     report(answer, out)
@@ -494,7 +352,7 @@ pub fn carv_exit_of(area: &[u8], id: u64, out: &mut [u64]) -> u64
     ensures { Exported (exit_of id) area.now out.old result area.now out.new }
 {
     if out.len() != WORDS {
-        return refused::UNSOUND;
+        return Refusal::Unsound.number();
     }
     let answer = carv_scheduler::exit_of(area, id);
     report(answer, out)

@@ -3,7 +3,6 @@ pub mod Table
 pub mod Sums
 pub mod Lists
 pub mod Words
-pub mod Moves
 pub mod Zero
 pub mod Rows
 pub mod Keys

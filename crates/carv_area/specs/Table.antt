@@ -1,6 +1,5 @@
 -- Tables: a list of rows, each an id and what stands under it. The Rust's `BTreeMap`. Assumes nothing.
-use Rattle.std.specs.Prelude.{Bool, cond, List, [], ◌∷◌, ℕ, suc, ◌+◌, ◌≤◌, eqb, ltb}
-use Rattle.std.proofs.Math.Option.{Option, none, some}
+use Rattle.std.specs.Prelude.{Bool, cond, List, [], ◌∷◌, ℕ, suc, ◌+◌, ◌≤◌, eqb, ltb, Option, Some, None}
 
 -- an id, and what stands under it
 pub record Row (A : Type 0) : Type 0 where
@@ -10,8 +9,8 @@ pub record Row (A : Type 0) : Type 0 where
 module _ {A : Type 0} where
   -- what stands under the id i in the first row that has it. BTreeMap::get
   abbrev pub at : List (Row A) → ℕ → Option A
-  at [] i = none
-  at (r ∷ m) i = cond (eqb r.id i) (some r.it) (at m i)
+  at [] i = None
+  at (r ∷ m) i = cond (eqb r.id i) (Some r.it) (at m i)
 
   -- with f of it there
   abbrev pub alter : ℕ → (A → A) → List (Row A) → List (Row A)

@@ -3,81 +3,26 @@
 #![tactic(auto)]
 
 ghost use Rattle.std.specs.Prelude.{◌≡◌, ◌⊎◌, [], ◌∷◌, ◌++◌, ◌+◌, ◌*◌, ◌-◌, ◌≤◌, ◌<◌, length, get_or, set, drop};
-ghost use Rattle.carv_area.specs.Le.{le2, le4, le8, set2, set4, set8};
 ghost use Rattle.carv_area.specs.Words.{words, rest, Writes};
 ghost use Rattle.carv_area.specs.Moves.{move_down, move_up, wipe, cut_row, open_row};
 ghost use Rattle.carv_area.specs.Rows.{remove_at};
-ghost use Rattle.carv_area.specs.Keys.{keys, find_in};
-ghost use Rattle.carv_area.specs.Search.{rank_in, Bracket};
+ghost use Rattle.carv_area.specs.Keys.{keys};
 ghost use Rattle.carv_area.specs.Zero.{all_zero};
-ghost use Rattle.carv_area.specs.Stored.{Keyed, Queue};
+ghost use Rattle.carv_area.specs.Stored.{Queue};
+
+mod table;
+
+pub use table::Table;
 
 // ---- words
-
-// A byte as a wide number.
-fn wide(x: u8) -> u64
-    ensures { (result ≡ x) × (result < 256) }
-{
-    x as u64
-}
-
-// The number that the 2 bytes from place o make.
-fn get2(a: &[u8], o: usize) -> u64
-    requires { o + 2 ≤ length a.now }
-    ensures { (result ≡ le2 a.now o) × (result < 65536) }
-{
-    wide(a[o]) + wide(a[o + 1]) * 256
-}
-
-// The number that the 4 bytes from place o make.
-fn get4(a: &[u8], o: usize) -> u64
-    requires { o + 4 ≤ length a.now }
-    ensures { (result ≡ le4 a.now o) × (result < 4294967296) }
-{
-    get2(a, o) + get2(a, o + 2) * 65536
-}
-
-// The number that the 8 bytes from place o make.
-fn get8(a: &[u8], o: usize) -> u64
-    requires { o + 8 ≤ length a.now }
-    ensures { result ≡ le8 a.now o }
-{
-    get4(a, o) + get4(a, o + 4) * 4294967296
-}
-
-// v modulo 65536 in the 2 bytes from place o.
-fn put2(a: &mut [u8], o: usize, v: u64)
-    requires { o + 1 < length a.old }
-    ensures { a.new ≡ set2 a.old o v }
-{
-    a[o] = (v % 256) as u8;
-    a[o + 1] = (v / 256 % 256) as u8;
-}
-
-// v modulo 4294967296 in the 4 bytes from place o.
-fn put4(a: &mut [u8], o: usize, v: u64)
-    requires { o + 4 ≤ length a.old }
-    ensures { a.new ≡ set4 a.old o v }
-{
-    put2(a, o, v);
-    put2(a, o + 2, v / 256 / 256);
-}
-
-// v in the 8 bytes from place o.
-fn put8(a: &mut [u8], o: usize, v: u64)
-    requires { o + 8 ≤ length a.old }
-    ensures { a.new ≡ set8 a.old o v }
-{
-    put4(a, o, v);
-    put4(a, o + 4, v / 256 / 256 / 256 / 256);
-}
 
 // Word number k of a.
 pub fn get(a: &[u8], k: usize) -> u64
     requires { k * 8 + 8 ≤ length a.now }
     ensures { result ≡ get_or (words a.now) k 0 }
 {
-    get8(a, k * 8)
+    let (words, _) = a.as_chunks();
+    u64::from_le_bytes(words[k])
 }
 
 // v at word number k of a.
@@ -85,132 +30,27 @@ pub fn put(a: &mut [u8], k: usize, v: u64)
     requires { k * 8 + 8 ≤ length a.old }
     ensures { Writes a.old a.new (set (words a.old) k v) }
 {
-    put8(a, k * 8, v)
+    // Byte by byte: `copy_from_slice` of bytes on the stack was tried, and its test for an overlap stayed in `carv_image`, 1.2 times as slow.
+    let o = k * 8;
+    let bytes = v.to_le_bytes();
+    a[o] = bytes[0];
+    a[o + 1] = bytes[1];
+    a[o + 2] = bytes[2];
+    a[o + 3] = bytes[3];
+    a[o + 4] = bytes[4];
+    a[o + 5] = bytes[5];
+    a[o + 6] = bytes[6];
+    a[o + 7] = bytes[7];
 }
 
 // ---- tables
-
-// The place of a row, if there is one.
-#[derive(Clone, Copy)]
-pub enum Found {
-    At(usize),
-    Nothing,
-}
-
-// The larger of x - y and 0.
-fn back(x: usize, y: u64) -> usize
-    ensures { result ≡ x - y }
-{
-    if y < x as u64 { x - y as usize } else { 0 }
-}
-
-// The lesser of n and d + 1.
-fn upto(n: usize, d: u64) -> usize
-    ensures { (result ≤ n) × (result ≤ d + 1) × (n ≤ result ⊎ d + 1 ≤ result) }
-{
-    if d < n as u64 { d as usize + 1 } else { n }
-}
-
-// The first word of row i.
-fn key(t: &[u8], w: usize, i: usize) -> u64
-    requires keyed { Keyed w t.now }
-    requires i_in_bounds { i < length (keys w (words t.now)) }
-    ensures { result ≡ get_or (keys w (words t.now)) i 0 }
-{
-    get(t, i * w + 1)
-}
-
-// How many keys are below id, by halving the count places from start on: the keys before them are below id, and those behind
-// them above it.
-fn halve(t: &[u8], w: usize, id: u64, start: usize, count: usize) -> usize
-    requires keyed { Keyed w t.now }
-    requires bracket { Bracket (keys w (words t.now)) id start count }
-    ensures { result ≡ rank_in (keys w (words t.now)) id }
-{
-    let mut lo = start;
-    let mut len = count;
-    while len > 1 {
-        let half = len / 2;
-        let x = key(t, w, lo + half - 1);
-        if x < id {
-            lo = lo + half;
-        }
-        len = len - half;
-    }
-    let x = key(t, w, lo);
-    if x < id {
-        return lo + 1;
-    }
-    lo
-}
-
-// How many rows, each w words wide, have a first word below id. Keys rise, so that they are at least as far apart as their
-// places: that leaves as many places to look at as there are gaps between the keys.
-pub fn rank(t: &[u8], w: usize, id: u64) -> usize
-    requires { Keyed w t.now }
-    ensures { result ≡ rank_in (keys w (words t.now)) id }
-{
-    let n = get(t, 0) as usize;
-    if n == 0 {
-        return 0;
-    }
-    let first = key(t, w, 0);
-    let last = key(t, w, n - 1);
-    if id <= first {
-        return 0;
-    }
-    if last < id {
-        return n;
-    }
-    let start = back(n - 1, last - id);
-    let end = upto(n, id - first);
-    halve(t, w, id, start, end - start)
-}
-
-// The place of the row whose first word is id, in a table whose rows are w words wide.
-pub fn find(t: &[u8], w: usize, id: u64) -> Found
-    requires { Keyed w t.now }
-    ensures { result ≡ find_in (keys w (words t.now)) id }
-{
-    let i = rank(t, w, id);
-    let n = get(t, 0) as usize;
-    if i < n {
-        let x = key(t, w, i);
-        if x == id {
-            return Found::At(i);
-        }
-        return Found::Nothing;
-    }
-    Found::Nothing
-}
-
-// The same, where the place guess is tried first.
-pub fn find_near(t: &[u8], w: usize, id: u64, guess: usize) -> Found
-    requires { Keyed w t.now }
-    ensures { result ≡ find_in (keys w (words t.now)) id }
-{
-    let n = get(t, 0) as usize;
-    if guess < n {
-        let x = key(t, w, guess);
-        if x == id {
-            return Found::At(guess);
-        }
-    }
-    find(t, w, id)
-}
 
 // The m words from place o + c move down to place o.
 pub fn shift_down(t: &mut [u8], o: usize, c: usize, m: usize)
     requires { ((o + c) + m) * 8 ≤ length t.old }
     ensures { Writes t.old t.new (move_down o c m (words t.old)) }
 {
-    let f = o + c;
-    let mut j = 0;
-    while j < m {
-        let w = get(t, f + j);
-        put(t, o + j, w);
-        j += 1;
-    }
+    t.copy_within((o + c) * 8..(o + c + m) * 8, o * 8);
 }
 
 // The m words from place o move up to place o + c.
@@ -218,13 +58,7 @@ pub fn shift_up(t: &mut [u8], o: usize, c: usize, m: usize)
     requires { ((o + c) + m) * 8 ≤ length t.old }
     ensures { Writes t.old t.new (move_up o c m (words t.old)) }
 {
-    let f = o + c;
-    let mut j = m;
-    while j > 0 {
-        j -= 1;
-        let w = get(t, o + j);
-        put(t, f + j, w);
-    }
+    t.copy_within(o * 8..(o + m) * 8, (o + c) * 8);
 }
 
 // The n words from place o are 0.
@@ -232,17 +66,14 @@ pub fn clear(t: &mut [u8], o: usize, n: usize)
     requires { (o + n) * 8 ≤ length t.old }
     ensures { Writes t.old t.new (wipe o n (words t.old)) }
 {
-    let mut j = 0;
-    while j < n {
-        put(t, o + j, 0);
-        j += 1;
-    }
+    t[o * 8..(o + n) * 8].fill(0);
 }
 
 // Row i is taken out: the rows behind it move down, the words that come free are 0, and the count falls.
+// Not a method of `Table`: that lends its bytes to read, and its keys rise, which a row that is opened by `insert_row` breaks.
 pub fn remove_row(t: &mut [u8], w: usize, i: usize)
-    requires w_in_bounds { (get_or (words t.old) 0 0 * w + 1) * 8 ≤ length t.old }
-    requires i_bound { i < get_or (words t.old) 0 0 }
+    requires rows_fit { (get_or (words t.old) 0 0 * w + 1) * 8 ≤ length t.old }
+    requires is_row { i < get_or (words t.old) 0 0 }
     ensures { Writes t.old t.new (cut_row w i (get_or (words t.old) 0 0) (words t.old)) }
 {
     let n = get(t, 0) as usize;
@@ -255,9 +86,9 @@ pub fn remove_row(t: &mut [u8], w: usize, i: usize)
 
 // Room for a row at place i: the rows from there on move up, and the count rises. The words at place i stay as they were.
 pub fn insert_row(t: &mut [u8], w: usize, i: usize)
-    requires le_w { 1 ≤ w }
-    requires w_in_bounds { (get_or (words t.old) 0 0 * w + w + 1) * 8 ≤ length t.old }
-    requires i_bound { i ≤ get_or (words t.old) 0 0 }
+    requires has_words { 1 ≤ w }
+    requires one_more_fits { (get_or (words t.old) 0 0 * w + w + 1) * 8 ≤ length t.old }
+    requires is_place { i ≤ get_or (words t.old) 0 0 }
     ensures { Writes t.old t.new (open_row w i (get_or (words t.old) 0 0) (words t.old)) }
 {
     let n = get(t, 0) as usize;
@@ -265,16 +96,13 @@ pub fn insert_row(t: &mut [u8], w: usize, i: usize)
     put(t, 0, (n + 1) as u64);
 }
 
-// Are all words from word k to the end 0?
+// Are all words from word k to the end 0? They are joined, and not asked one by one (`all`), so that several are read at a time.
 pub fn zero_from(t: &[u8], k: usize) -> bool
     ensures { result ≡ all_zero (drop k (words t.now)) }
 {
-    let n = t.len() / 8;
-    let mut i = k;
-    let mut x: u64 = 0;
-    while i < n {
+    let mut x = 0;
+    for i in k..t.len() / 8 {
         x |= get(t, i);
-        i += 1;
     }
     x == 0
 }
@@ -284,9 +112,9 @@ pub fn zero_from(t: &[u8], k: usize) -> bool
 // v behind the numbers of the queue t, which has room.
 pub fn push(t: &mut [u8], v: u64)
     requires queue { Queue t.old (keys 1 (words t.old)) }
-    requires t_in_bounds { (length (keys 1 (words t.old)) + 1) * 8 + 8 ≤ length t.old }
-    ensures queue_2 { Queue t.new (keys 1 (words t.old) ++ (v ∷ [])) }
-    ensures t_unchanged { rest t.new ≡ rest t.old }
+    requires one_more_fits { (length (keys 1 (words t.old)) + 1) * 8 + 8 ≤ length t.old }
+    ensures pushed { Queue t.new (keys 1 (words t.old) ++ (v ∷ [])) }
+    ensures rest_stays { rest t.new ≡ rest t.old }
 {
     let n = get(t, 0) as usize;
     put(t, n + 1, v);
@@ -296,10 +124,10 @@ pub fn push(t: &mut [u8], v: u64)
 // The number at place i of the queue t is taken out, and those behind it move down.
 pub fn pull(t: &mut [u8], i: usize) -> u64
     requires queue { Queue t.old (keys 1 (words t.old)) }
-    requires i_in_bounds { i < length (keys 1 (words t.old)) }
+    requires is_place { i < length (keys 1 (words t.old)) }
     ensures value { result ≡ get_or (keys 1 (words t.old)) i 0 }
-    ensures queue_2 { Queue t.new (remove_at (keys 1 (words t.old)) i) }
-    ensures t_unchanged { rest t.new ≡ rest t.old }
+    ensures pulled { Queue t.new (remove_at (keys 1 (words t.old)) i) }
+    ensures rest_stays { rest t.new ≡ rest t.old }
 {
     let v = get(t, i + 1);
     remove_row(t, 1, i);

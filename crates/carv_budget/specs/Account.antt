@@ -1,16 +1,12 @@
 -- Document 01's budget account: its rules, and its calls with the questions that they ask. Assumes nothing.
-use Rattle.std.specs.Prelude.{◌≡◌, Bool, cond, ◌&&◌, ℕ, ◌+◌, ◌-◌, ◌%◌, leb, eqb}
+use Rattle.std.specs.Prelude.{◌≡◌, Bool, cond, ◌&&◌, ℕ, ◌+◌, ◌-◌, ◌%◌, leb, eqb, Result, Ok, Err}
 use Rattle.carv_budget.specs.declared.Account.{Account}
-use Rattle.carv_budget.specs.declared.Answer.{Answer}
-use Rattle.carv_budget.specs.declared.Answer.TheVariants.{Done, Renewed, NotDue, Unsound, CpuBudgetExceedsPeriod, MemoryUnderflow, CpuLimitReached, MemoryLimitReached, CpuLimitExceeded, MemoryLimitExceeded, ReservationUnderflow}
+use Rattle.carv_budget.specs.declared.BudgetError.{BudgetError}
+use Rattle.carv_budget.specs.declared.BudgetError.TheVariants.{Unsound, CpuBudgetExceedsPeriod, MemoryUnderflow, CpuLimitReached, MemoryLimitReached, CpuLimitExceeded, MemoryLimitExceeded, ReservationUnderflow}
 use Rattle.carv_budget.specs.declared.Outcome.{Outcome}
-use Rattle.carv_budget.specs.declared.CarveOut.{CarveOut}
 
--- 01's number of each answer, 0 where the call is accepted
-abbrev pub number : Answer → ℕ
-number Done = 0
-number Renewed = 0
-number NotDue = 0
+-- 01's number of each error
+abbrev pub number : BudgetError → ℕ
 number Unsound = 1
 number CpuBudgetExceedsPeriod = 2
 number MemoryUnderflow = 11
@@ -19,6 +15,11 @@ number MemoryLimitReached = 12
 number CpuLimitExceeded = 12
 number MemoryLimitExceeded = 12
 number ReservationUnderflow = 15
+
+-- 01's number of an answer, 0 where the call is accepted
+abbrev pub number_of : {T : Type 0} → Result T BudgetError → ℕ
+number_of (Ok _) = 0
+number_of (Err e) = number e
 
 -- "period (always 10,000,000 ns)"
 abbrev pub period : ℕ
@@ -91,80 +92,83 @@ returnable a child =
     eqb child.cpu_reserved 0 && eqb child.memory_reserved 0 && eqb child.memory_used 0
     && leb child.cpu_allowance a.cpu_reserved && leb child.memory_limit a.memory_reserved
 
-abbrev pub outcome : Answer → Account → Outcome
+abbrev pub outcome : {T : Type 0} → Result T BudgetError → Account → Outcome T
 outcome answer a = record { account = a; answer = answer }
 
-abbrev pub carve_outcome : Answer → (parent child : Account) → CarveOut
-carve_outcome answer parent child = record { parent = parent; child = child; answer = answer }
+-- an accepted call that gives nothing but the account, and a refused one
+abbrev pub done : Account → Outcome (Unit {0})
+done a = outcome (Ok tt) a
+
+abbrev pub refused : {T : Type 0} → BudgetError → Account → Outcome T
+refused e a = outcome (Err e) a
 
 -- The calls, each the first question missed or the step.
 
 -- opening an account: question 2
-abbrev pub open_account : (allowance limit now : ℕ) → Outcome
+abbrev pub open_account : (allowance limit now : ℕ) → Result Account BudgetError
 open_account allowance limit now =
-    cond (leb allowance period) (outcome Done (fresh allowance limit now))
-    (outcome CpuBudgetExceedsPeriod blank)
+    cond (leb allowance period) (Ok (fresh allowance limit now))
+    (Err CpuBudgetExceedsPeriod)
 
--- a renewal: question 1
-abbrev pub refill : Account → ℕ → Outcome
+-- a renewal: question 1. It answers whether one was due
+abbrev pub refill : Account → ℕ → Outcome Bool
 refill a now =
-    cond (sound a)
-    (cond (due a now) (outcome Renewed (renew a now))
-    (outcome NotDue (renew a now)))
-    (outcome Unsound a)
+    cond (sound a) (outcome (Ok (due a now)) (renew a now))
+    (refused Unsound a)
 
 -- the CPU charge of a renewed account: question 12
-unfoldable pub spent : Account → ℕ → Outcome
+unfoldable pub spent : Account → ℕ → Outcome (Unit {0})
 spent a ns =
-    cond (leb ns a.cpu_left) (outcome Done (spend a ns))
-    (outcome CpuLimitReached a)
+    cond (leb ns a.cpu_left) (done (spend a ns))
+    (refused CpuLimitReached a)
 
 -- a CPU charge: question 1, the renewal, question 12
-abbrev pub charge_cpu : Account → (ns now : ℕ) → Outcome
+abbrev pub charge_cpu : Account → (ns now : ℕ) → Outcome (Unit {0})
 charge_cpu a ns now =
     cond (sound a) (spent (renew a now) ns)
-    (outcome Unsound a)
+    (refused Unsound a)
 
 -- a memory charge: questions 1 and 12
-abbrev pub charge_memory : Account → ℕ → Outcome
+abbrev pub charge_memory : Account → ℕ → Outcome (Unit {0})
 charge_memory a bytes =
     cond (sound a)
-    (cond (leb bytes (free a)) (outcome Done (charge a bytes))
-    (outcome MemoryLimitReached a))
-    (outcome Unsound a)
+    (cond (leb bytes (free a)) (done (charge a bytes))
+    (refused MemoryLimitReached a))
+    (refused Unsound a)
 
 -- a release of memory: questions 1 and 11
-abbrev pub release_memory : Account → ℕ → Outcome
+abbrev pub release_memory : Account → ℕ → Outcome (Unit {0})
 release_memory a bytes =
     cond (sound a)
-    (cond (leb bytes a.memory_used) (outcome Done (credit a bytes))
-    (outcome MemoryUnderflow a))
-    (outcome Unsound a)
+    (cond (leb bytes a.memory_used) (done (credit a bytes))
+    (refused MemoryUnderflow a))
+    (refused Unsound a)
 
--- the carve-out from a renewed account: question 12, "CPU with CPU left, then memory with free memory". "The child has the parent's start"
-unfoldable pub carved : Account → (ns bytes : ℕ) → CarveOut
+-- the carve-out from a renewed account: question 12, "CPU with CPU left, then memory with free memory". "The child has the parent's start". The account
+-- left is the parent, and the child is answered
+unfoldable pub carved : Account → (ns bytes : ℕ) → Outcome Account
 carved a ns bytes =
     cond (leb ns a.cpu_left)
-    (cond (leb bytes (free a)) (carve_outcome Done (reserve a ns bytes) (fresh ns bytes a.period_start))
-    (carve_outcome MemoryLimitExceeded a blank))
-    (carve_outcome CpuLimitExceeded a blank)
+    (cond (leb bytes (free a)) (outcome (Ok (fresh ns bytes a.period_start)) (reserve a ns bytes))
+    (refused MemoryLimitExceeded a))
+    (refused CpuLimitExceeded a)
 
 -- a carve-out: question 1, the renewal, question 12
-abbrev pub carve_out : Account → (ns bytes now : ℕ) → CarveOut
+abbrev pub carve_out : Account → (ns bytes now : ℕ) → Outcome Account
 carve_out a ns bytes now =
     cond (sound a) (carved (renew a now) ns bytes)
-    (carve_outcome Unsound a blank)
+    (refused Unsound a)
 
 -- the return of a child: question 1 of both accounts, and question 15
-abbrev pub release_child : (a child : Account) → Outcome
+abbrev pub release_child : (a child : Account) → Outcome (Unit {0})
 release_child a child =
     cond (sound a)
     (cond (sound child)
-    (cond (returnable a child) (outcome Done (return a child))
-    (outcome ReservationUnderflow a))
-    (outcome Unsound a))
-    (outcome Unsound a)
+    (cond (returnable a child) (done (return a child))
+    (refused ReservationUnderflow a))
+    (refused Unsound a))
+    (refused Unsound a)
 
 -- "renewing and charging one account also exist on an account lent for change": at the end it holds the account of the by-value call, whose answer is returned
-abbrev pub Lent : Outcome → (exit : Account) → Answer → Type 0
+abbrev pub Lent : {T : Type 0} → Outcome T → (exit : Account) → Result T BudgetError → Type 0
 Lent r exit answer = (exit ≡ r.account) × (answer ≡ r.answer)

@@ -1,15 +1,14 @@
 -- The Rust's results in document 01's words: what each method of Rust.antt answers and leaves, as the outcome that the port hands back. Assumes nothing.
-use Rattle.std.specs.Prelude.{Bool, true, false}
-use Rattle.carv_budget.specs.declared.Account.{Account}
-use Rattle.carv_budget.specs.declared.Answer.{Answer}
-use Rattle.carv_budget.specs.declared.Answer.TheVariants.{Done, Renewed, NotDue, CpuBudgetExceedsPeriod, MemoryUnderflow, CpuLimitReached, MemoryLimitReached, CpuLimitExceeded, MemoryLimitExceeded, ReservationUnderflow}
+use Rattle.std.specs.Prelude.{Bool, true, false, Result, Ok, Err}
+use Rattle.carv_budget.specs.declared.BudgetError.{BudgetError}
+use Rattle.carv_budget.specs.declared.BudgetError.TheVariants.{CpuBudgetExceedsPeriod, MemoryUnderflow, CpuLimitReached, MemoryLimitReached, CpuLimitExceeded, MemoryLimitExceeded, ReservationUnderflow}
 use Rattle.carv_budget.specs.declared.Outcome.{Outcome}
-use Rattle.carv_budget.specs.declared.CarveOut.{CarveOut}
-use Rattle.carv_budget.specs.Rust.{BudgetError, zero_period, cpu_budget_exceeds_period, cpu_limit_exceeded, memory_limit_exceeded, memory_limit_reached, memory_underflow, reservation_underflow, Result, ok, err, Call}
+use Rattle.carv_budget.specs.Rust as rust
+use Rattle.carv_budget.specs.Rust.{zero_period, cpu_budget_exceeds_period, cpu_limit_exceeded, memory_limit_exceeded, memory_limit_reached, memory_underflow, reservation_underflow, ok, err, Call}
 
 -- The Rust's answers in the port's words. `ZeroPeriod` can't come, as the period is a constant, so what `error zero_period` says is free.
 
-abbrev pub error : BudgetError → Answer
+abbrev pub error : rust.BudgetError → BudgetError
 error zero_period = CpuBudgetExceedsPeriod
 error cpu_budget_exceeds_period = CpuBudgetExceedsPeriod
 error cpu_limit_exceeded = CpuLimitExceeded
@@ -18,34 +17,21 @@ error memory_limit_reached = MemoryLimitReached
 error memory_underflow = MemoryUnderflow
 error reservation_underflow = ReservationUnderflow
 
-abbrev pub answer : {A : Type 0} → Result A → Answer
-answer (ok _) = Done
-answer (err e) = error e
+-- what a result holds, or its error
+abbrev pub answer : {A : Type 0} → rust.Result A → Result A BudgetError
+answer (ok a) = Ok a
+answer (err e) = Err (error e)
 
--- the account that a result holds; an error holds none, and the port answers with 0 in every field
-abbrev pub held : Result Account → Account
-held (ok a) = a
-held (err _) = record { cpu_allowance = 0; memory_limit = 0; period_start = 0; cpu_left = 0; cpu_reserved = 0; memory_used = 0; memory_reserved = 0 }
+-- `charge_cpu` answers whether the time was left
+abbrev pub charged : Bool → Result (Unit {0}) BudgetError
+charged true = Ok tt
+charged false = Err CpuLimitReached
 
-abbrev pub renewal : Bool → Answer
-renewal true = Renewed
-renewal false = NotDue
+abbrev pub refill_of : Call Bool → Outcome Bool
+refill_of r = record { account = r.self; answer = Ok r.result }
 
-abbrev pub charged : Bool → Answer
-charged true = Done
-charged false = CpuLimitReached
-
-abbrev pub opening_of : Result Account → Outcome
-opening_of r = record { account = held r; answer = answer r }
-
-abbrev pub refill_of : Call Bool → Outcome
-refill_of r = record { account = r.self; answer = renewal r.result }
-
-abbrev pub charge_of : Call Bool → Outcome
+abbrev pub charge_of : Call Bool → Outcome (Unit {0})
 charge_of r = record { account = r.self; answer = charged r.result }
 
-abbrev pub outcome_of : Call (Result (Unit {0})) → Outcome
+abbrev pub outcome_of : {A : Type 0} → Call (rust.Result A) → Outcome A
 outcome_of r = record { account = r.self; answer = answer r.result }
-
-abbrev pub carve_out_of : Call (Result Account) → CarveOut
-carve_out_of r = record { parent = r.self; child = held r.result; answer = answer r.result }

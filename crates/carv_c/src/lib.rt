@@ -5,7 +5,6 @@
 ghost use Rattle.std.specs.Prelude.{◌≡◌};
 ghost use Rattle.carv_objects_spec.specs.Book as objects;
 ghost use Rattle.carv_scheduler_spec.specs.Book.{on_objects, create_user_thread, start, block_current, wake, is_blocked_on, kill, tick, plan, read_thread, read_current, read_switches, exit_of};
-ghost use Rattle.carv_scheduler.specs.Answer.{number};
 ghost use Rattle.carv_scheduler.specs.Area.{sound_area};
 ghost use Rattle.carv_scheduler.specs.Image.{Filled};
 ghost use Rattle.carv.specs.C.{Exported, ExportedWithImage, Opens};

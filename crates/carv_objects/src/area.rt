@@ -1,4 +1,5 @@
 // The registry's area: its parts, each lent to one function of the table. docs/LAYOUT.md has the layout.
+// That it is well formed is asked in each contract, and is no type's invariant: C lends any bytes, and a refused call leaves them as they came.
 ghost use Rattle.std.specs.Prelude.{◌≡◌, true, ◌&&◌, [], ◌∷◌, ◌++◌, ◌+◌, ◌*◌, ◌≤◌, ◌<◌, length, get_or, set};
 ghost use Rattle.carv_area.specs.Table.{Rising};
 ghost use Rattle.carv_area.specs.Rows.{remove_at};
@@ -9,9 +10,8 @@ ghost use Rattle.carv_objects.specs.Laws.Rows.{row, no_row};
 ghost use Rattle.carv_objects.specs.Laws.Formed.{WellFormed, Leaves};
 ghost use Rattle.carv_objects.specs.Laws.AreaSteps.{with_rows, BudgetAt};
 
-use crate::kinds::Kind;
-use crate::rows;
-use carv_area::Found;
+use crate::rows::{self, ROW};
+use carv_area::Table;
 use carv_budget::Account;
 use carv_objects_spec::Entry;
 
@@ -23,13 +23,20 @@ pub const BYTES: usize = 45_072;
 // How many objects there can be, and the first id that is never given.
 pub const PLACES: usize = 512;
 
-const LAST_ID: u64 = 18_446_744_073_709_551_615;
+const LAST_ID: u64 = u64::MAX;
 
 // A walk over the rows notes where an id stands under its rest by this prime.
-pub const GUESSES: u64 = 509;
+const GUESSES: u64 = 509;
 
 // The id of the root budget.
 pub const ROOT: u64 = 1;
+
+// Where a walk notes the place of an id.
+pub fn note(id: u64) -> usize
+    ensures { result < 512 }
+{
+    (id % GUESSES) as usize
+}
 
 // The id that the next object gets.
 pub fn next_id(a: &[u8]) -> u64
@@ -55,19 +62,21 @@ pub fn count(a: &[u8]) -> usize
 }
 
 // The place of the object with this id.
-pub fn find(a: &[u8], id: u64) -> Found
+pub fn find(a: &[u8], id: u64) -> Option<usize>
     requires { WellFormed a.now }
     ensures { Located no_row (decode a.now).rows id result }
 {
-    carv_area::find(&a[TABLE..BYTES], rows::ROW, id)
+    let bytes = &a[TABLE..BYTES];
+    Table::<ROW> { bytes }.find(id)
 }
 
 // The same, where the place guess is tried first.
-pub fn find_near(a: &[u8], id: u64, guess: usize) -> Found
+pub fn find_near(a: &[u8], id: u64, guess: usize) -> Option<usize>
     requires { WellFormed a.now }
     ensures { Located no_row (decode a.now).rows id result }
 {
-    carv_area::find_near(&a[TABLE..BYTES], rows::ROW, id, guess)
+    let bytes = &a[TABLE..BYTES];
+    Table::<ROW> { bytes }.find_near(id, guess)
 }
 
 // The id at place i.
@@ -97,7 +106,8 @@ pub fn entry_at(a: &[u8], i: usize) -> Entry
     rows::read_entry(&a[TABLE..BYTES], i)
 }
 
-// The object id, which stands at place i, has the entry e.
+// The object id, which stands at place i, has the entry e. An id and its place are no struct: that they belong together is a fact of the
+// lent bytes, which change, and not of the two numbers.
 pub fn set_entry(a: &mut [u8], i: usize, id: u64, e: Entry)
     requires well_formed { WellFormed a.old }
     requires i_in_bounds { (i < length (decode a.old).rows) × ((get_or (decode a.old).rows i no_row).id ≡ id) }
@@ -129,28 +139,16 @@ pub fn has_room(a: &[u8]) -> bool
     requires { WellFormed a.now }
     ensures { result ≡ (has_place (decode a.now) && has_next (decode a.now)) }
 {
-    if count(a) >= PLACES {
-        return false;
-    }
-    if next_id(a) >= LAST_ID {
-        return false;
-    }
-    true
+    count(a) < PLACES && next_id(a) < LAST_ID
 }
 
 // The place of the budget with this id.
-pub fn find_budget(a: &[u8], id: u64) -> Found
+pub fn find_budget(a: &[u8], id: u64) -> Option<usize>
     requires { WellFormed a.now }
     ensures { BudgetAt (decode a.now) id result }
 {
-    let Found::At(i) = find(a, id) else {
-        return Found::Nothing;
-    };
-    let e = entry_at(a, i);
-    if e.kind != Kind::BUDGET_CODE {
-        return Found::Nothing;
-    }
-    Found::At(i)
+    let i = find(a, id)?;
+    entry_at(a, i).kind.is_budget().then_some(i)
 }
 
 // The object id, which stands at place i, has this account.
@@ -160,17 +158,7 @@ pub fn set_account(a: &mut [u8], i: usize, id: u64, account: Account)
     ensures { Leaves a.new (budget id (λ _. account) (decode a.old)) }
 {
     let e = entry_at(a, i);
-    set_entry(
-        a,
-        i,
-        id,
-        Entry {
-            kind: e.kind,
-            payer: e.payer,
-            charge: e.charge,
-            account,
-        },
-    )
+    set_entry(a, i, id, Entry { account, ..e })
 }
 
 // The object id, which stands at place i, has this charge.
@@ -180,18 +168,7 @@ pub fn set_charge(a: &mut [u8], i: usize, id: u64, charge: u64)
     ensures { Leaves a.new (object id (λ _. charge) (decode a.old)) }
 {
     let e = entry_at(a, i);
-    let account = e.account;
-    set_entry(
-        a,
-        i,
-        id,
-        Entry {
-            kind: e.kind,
-            payer: e.payer,
-            charge,
-            account,
-        },
-    )
+    set_entry(a, i, id, Entry { charge, ..e })
 }
 
 // A new object with the entry e, under the next id.

@@ -3,33 +3,24 @@ ghost use Rattle.std.specs.Prelude.{◌≡◌, true, not, ◌&&◌, ◌||◌, �
 ghost use Rattle.carv_area.specs.Rows.{remove_at};
 ghost use Rattle.carv_area.specs.Lookup.{Here};
 ghost use Rattle.carv_budget.specs.Account.{sound, renew};
-ghost use Rattle.carv_objects.specs.declared.Answer.TheVariants as answer;
 ghost use Rattle.carv_objects_spec.specs.Registry.{has, object, pays_for, has_place, has_next, budget, add, create, insert, create_budget, charge_more, uncharge, remove, refill, charge_cpu, pays_for_anything, read_account, charge_of};
 ghost use Rattle.carv_objects_spec.specs.Totals.{read_totals};
-ghost use Rattle.carv_objects.specs.Kinds.{kind_needs_backing};
-ghost use Rattle.carv_objects.specs.Laws.Booked.{renewal};
+ghost use Rattle.carv_objects_spec.specs.Kinds.{needs_backing};
+ghost use Rattle.carv_objects.specs.Answer as answer;
 ghost use Rattle.carv_objects.specs.Area.{decode, sound_area, Serves};
 ghost use Rattle.carv_objects.specs.Laws.Rows.{no_row};
 ghost use Rattle.carv_objects.specs.Laws.Formed.{WellFormed, Leaves};
 ghost use Rattle.carv_objects.specs.Laws.AreaSteps.{with_rows};
 
-use crate::accounts::{Booked, Carved};
-use crate::{Answer, Kind, KindCode, accounts, area, refused, subtree};
-use carv_area::Found;
+use crate::{Charge, Kind, Refusal, accounts, area, subtree};
 use carv_budget::Account;
-use carv_objects_spec::Entry;
+use carv_objects_spec::{Entry, Totals};
 
 // Is the backing there, or none needed?
 fn has_backing(kind: Kind, backing: bool) -> bool
-    ensures { result ≡ (not (kind_needs_backing kind) || backing) }
+    ensures { result ≡ (not (needs_backing kind) || backing) }
 {
-    if !kind.needs_backing() {
-        return true;
-    }
-    if backing {
-        return true;
-    }
-    false
+    !kind.needs_backing() || backing
 }
 
 // The account of the object at place i.
@@ -38,219 +29,165 @@ pub fn account_at(a: &[u8], i: usize) -> Account
     requires i_in_bounds { i < length (decode a.now).rows }
     ensures { result ≡ (get_or (decode a.now).rows i no_row).it.account }
 {
-    let e = area::entry_at(a, i);
-    e.account
+    area::entry_at(a, i).account
 }
 
 // The budget payer, which stands at place i, gets this account, and a new object stands under the next id.
-fn store(a: &mut [u8], i: usize, payer: u64, account: Account, e: Entry) -> Answer
+fn store(a: &mut [u8], i: usize, payer: u64, account: Account, e: Entry) -> u64
     requires well_formed { WellFormed a.old }
     requires here { Here no_row (decode a.old).rows payer i }
     requires a_value { (has_place (decode a.old) && has_next (decode a.old)) ≡ true }
-    ensures { (result ≡ answer.Id (decode a.old).next) × Leaves a.new (add e (budget payer (λ _. account) (decode a.old))) }
+    ensures { (result ≡ (decode a.old).next) × Leaves a.new (add e (budget payer (λ _. account) (decode a.old))) }
 {
     area::set_account(a, i, payer, account);
-    Answer::Id(area::add(a, e))
+    area::add(a, e)
 }
 
-pub fn insert(a: &mut [u8], code: u64, payer: u64, bytes: u64) -> Answer
+pub fn insert(a: &mut [u8], code: u64, payer: u64, bytes: u64) -> Result<u64, Refusal>
     requires { sound_area a.old ≡ true }
-    ensures { Serves (insert code payer bytes) a.old result a.new }
+    ensures { Serves (insert code payer bytes) answer.id_of a.old result a.new }
 {
-    if !Kind::is_listed(code) {
-        return Answer::Refused(refused::CODE);
-    }
-    if code == Kind::BUDGET_CODE {
-        return Answer::Refused(refused::CODE);
+    let kind = Kind::from_code(code).ok_or(Refusal::Code)?;
+    if kind.is_budget() {
+        return Err(Refusal::Code);
     }
     if !area::has_room(a) {
-        return Answer::Refused(refused::FULL);
+        return Err(Refusal::Full);
     }
-    let Found::At(i) = area::find_budget(a, payer) else {
-        return Answer::Refused(refused::MISSING);
-    };
+    let i = area::find_budget(a, payer).ok_or(Refusal::Missing)?;
     let account = account_at(a, i);
-    let Booked::Yes(paid) = accounts::charge(account, bytes) else {
-        return Answer::Refused(refused::LIMIT);
-    };
-    store(
-        a,
-        i,
+    let paid = accounts::charge(account, bytes).ok_or(Refusal::Limit)?;
+    let e = Entry {
+        kind,
         payer,
-        paid,
-        Entry {
-            kind: code,
-            payer,
-            charge: bytes,
-            account: Account::BLANK,
-        },
-    )
+        charge: bytes,
+        account: Account::BLANK,
+    };
+    Ok(store(a, i, payer, paid, e))
 }
 
-pub fn create(a: &mut [u8], code: u64, payer: u64, backing: bool) -> Answer
+pub fn create(a: &mut [u8], code: u64, payer: u64, backing: bool) -> Result<u64, Refusal>
     requires { sound_area a.old ≡ true }
-    ensures { Serves (create code payer backing) a.old result a.new }
+    ensures { Serves (create code payer backing) answer.id_of a.old result a.new }
 {
-    let KindCode::Listed(kind) = Kind::from_code(code) else {
-        return Answer::Refused(refused::CODE);
-    };
+    let kind = Kind::from_code(code).ok_or(Refusal::Code)?;
     if !area::has_room(a) {
-        return Answer::Refused(refused::FULL);
+        return Err(Refusal::Full);
     }
-    let Found::At(i) = area::find_budget(a, payer) else {
-        return Answer::Refused(refused::MISSING);
-    };
+    let i = area::find_budget(a, payer).ok_or(Refusal::Missing)?;
     let account = account_at(a, i);
     let bytes = kind.bytes();
-    let Booked::Yes(paid) = accounts::charge(account, bytes) else {
-        return Answer::Refused(refused::LIMIT);
-    };
+    let paid = accounts::charge(account, bytes).ok_or(Refusal::Limit)?;
     if !kind.is_creatable() {
-        return Answer::Refused(refused::KIND);
+        return Err(Refusal::Kind);
     }
     if !has_backing(kind, backing) {
-        return Answer::Refused(refused::BACKING);
+        return Err(Refusal::Backing);
     }
-    store(
-        a,
-        i,
+    let e = Entry {
+        kind,
         payer,
-        paid,
-        Entry {
-            kind: code,
-            payer,
-            charge: bytes,
-            account: Account::BLANK,
-        },
-    )
+        charge: bytes,
+        account: Account::BLANK,
+    };
+    Ok(store(a, i, payer, paid, e))
 }
 
-// The budget id, which stands at place i, is renewed, and the call refused.
-fn renew_and_refuse(a: &mut [u8], i: usize, id: u64, account: Account, time: u64) -> Answer
+// The budget id, which stands at place i and has this account, is renewed.
+fn renew(a: &mut [u8], i: usize, id: u64, account: Account, time: u64)
     requires well_formed { WellFormed a.old }
     requires here { Here no_row (decode a.old).rows id i }
     requires account_value { (sound account ≡ true) × (account ≡ (get_or (decode a.old).rows i no_row).it.account) }
-    ensures { (result ≡ answer.Refused 12) × Leaves a.new (budget id (λ x. renew x time) (decode a.old)) }
+    ensures { Leaves a.new (budget id (λ x. renew x time) (decode a.old)) }
 {
     let renewed = accounts::renew(account, time);
     area::set_account(a, i, id, renewed);
-    Answer::Refused(refused::LIMIT)
 }
 
-pub fn create_budget(a: &mut [u8], parent: u64, cpu: u64, memory: u64, time: u64) -> Answer
+pub fn create_budget(
+    a: &mut [u8],
+    parent: u64,
+    cpu: u64,
+    memory: u64,
+    time: u64,
+) -> Result<u64, Refusal>
     requires { sound_area a.old ≡ true }
-    ensures { Serves (create_budget parent cpu memory time) a.old result a.new }
+    ensures { Serves (create_budget parent cpu memory time) answer.id_of a.old result a.new }
 {
     if !area::has_room(a) {
-        return Answer::Refused(refused::FULL);
+        return Err(Refusal::Full);
     }
-    let Found::At(i) = area::find_budget(a, parent) else {
-        return Answer::Refused(refused::MISSING);
-    };
+    let i = area::find_budget(a, parent).ok_or(Refusal::Missing)?;
     let account = account_at(a, i);
-    let Booked::Yes(paid) = accounts::charge(account, Kind::BUDGET_BYTES) else {
-        return Answer::Refused(refused::LIMIT);
+    let paid = accounts::charge(account, Kind::BUDGET_BYTES).ok_or(Refusal::Limit)?;
+    let Some((rest, child)) = accounts::carve(paid, cpu, memory, time) else {
+        renew(a, i, parent, account, time);
+        return Err(Refusal::Limit);
     };
-    let Carved::Yes(rest, child) = accounts::carve(paid, cpu, memory, time) else {
-        return renew_and_refuse(a, i, parent, account, time);
+    let e = Entry {
+        kind: Kind::Budget,
+        payer: parent,
+        charge: Kind::BUDGET_BYTES,
+        account: child,
     };
-    store(
-        a,
-        i,
-        parent,
-        rest,
-        Entry {
-            kind: Kind::BUDGET_CODE,
-            payer: parent,
-            charge: Kind::BUDGET_BYTES,
-            account: child,
-        },
-    )
+    Ok(store(a, i, parent, rest, e))
 }
 
-// What a renewal answered.
-fn renewal(answer: carv_budget::Answer) -> Answer
-    ensures { result ≡ renewal answer }
-{
-    match answer {
-        carv_budget::Answer::Renewed => Answer::Renewed,
-        carv_budget::Answer::NotDue => Answer::NotDue,
-        carv_budget::Answer::Done => Answer::NotDue,
-        carv_budget::Answer::Unsound => Answer::NotDue,
-        carv_budget::Answer::CpuBudgetExceedsPeriod => Answer::NotDue,
-        carv_budget::Answer::MemoryUnderflow => Answer::NotDue,
-        carv_budget::Answer::CpuLimitReached => Answer::NotDue,
-        carv_budget::Answer::MemoryLimitReached => Answer::NotDue,
-        carv_budget::Answer::CpuLimitExceeded => Answer::NotDue,
-        carv_budget::Answer::MemoryLimitExceeded => Answer::NotDue,
-        carv_budget::Answer::ReservationUnderflow => Answer::NotDue,
-    }
-}
-
-pub fn refill(a: &mut [u8], id: u64, time: u64) -> Answer
+pub fn refill(a: &mut [u8], id: u64, time: u64) -> Result<bool, Refusal>
     requires { sound_area a.old ≡ true }
-    ensures { Serves (refill id time) a.old result a.new }
+    ensures { Serves (refill id time) answer.renewed_of a.old result a.new }
 {
-    let Found::At(i) = area::find_budget(a, id) else {
-        return Answer::Refused(refused::MISSING);
-    };
+    let i = area::find_budget(a, id).ok_or(Refusal::Missing)?;
     let account = account_at(a, i);
     let done = account.refill(time);
-    let renewed = done.account;
-    let answer = done.answer;
-    area::set_account(a, i, id, renewed);
-    renewal(answer)
+    area::set_account(a, i, id, done.account);
+    // The account is sound, so the renewal isn't refused.
+    Ok(done.answer.unwrap_or(false))
 }
 
-pub fn charge_cpu(a: &mut [u8], id: u64, ns: u64, time: u64) -> Answer
+pub fn charge_cpu(a: &mut [u8], id: u64, ns: u64, time: u64) -> Result<(), Refusal>
     requires { sound_area a.old ≡ true }
-    ensures { Serves (charge_cpu id ns time) a.old result a.new }
+    ensures { Serves (charge_cpu id ns time) answer.nothing a.old result a.new }
 {
-    let Found::At(i) = area::find_budget(a, id) else {
-        return Answer::Refused(refused::MISSING);
-    };
+    let i = area::find_budget(a, id).ok_or(Refusal::Missing)?;
     let account = account_at(a, i);
-    let Booked::Yes(rest) = accounts::spend(account, ns, time) else {
-        return renew_and_refuse(a, i, id, account, time);
+    let Some(rest) = accounts::spend(account, ns, time) else {
+        renew(a, i, id, account, time);
+        return Err(Refusal::Limit);
     };
     area::set_account(a, i, id, rest);
-    Answer::Done
+    Ok(())
 }
 
 // The account of a budget.
-pub fn account(a: &[u8], id: u64) -> Answer
+pub fn account(a: &[u8], id: u64) -> Result<Account, Refusal>
     requires { sound_area a.now ≡ true }
-    ensures { Serves (read_account id) a.now result a.now }
+    ensures { Serves (read_account id) answer.account_of a.now result a.now }
 {
-    let Found::At(i) = area::find_budget(a, id) else {
-        return Answer::Refused(refused::MISSING);
-    };
-    let account = account_at(a, i);
-    Answer::AccountOf(account)
+    let i = area::find_budget(a, id).ok_or(Refusal::Missing)?;
+    Ok(account_at(a, i))
 }
 
 // The payer and the charge of an object.
-pub fn charge_of(a: &[u8], id: u64) -> Answer
+pub fn charge_of(a: &[u8], id: u64) -> Result<Charge, Refusal>
     requires { sound_area a.now ≡ true }
-    ensures { Serves (charge_of id) a.now result a.now }
+    ensures { Serves (charge_of id) answer.charge_of a.now result a.now }
 {
-    let Found::At(i) = area::find(a, id) else {
-        return Answer::Refused(refused::MISSING);
-    };
+    let i = area::find(a, id).ok_or(Refusal::Missing)?;
     let e = area::entry_at(a, i);
-    Answer::Charge(e.payer, e.charge)
+    Ok(Charge {
+        payer: e.payer,
+        bytes: e.charge,
+    })
 }
 
 // A budget with all below it, summed.
-pub fn totals(a: &[u8], id: u64) -> Answer
+pub fn totals(a: &[u8], id: u64) -> Result<Totals, Refusal>
     requires { sound_area a.now ≡ true }
-    ensures { Serves (read_totals id) a.now result a.now }
+    ensures { Serves (read_totals id) answer.totals_of a.now result a.now }
 {
-    let Found::At(i) = area::find_budget(a, id) else {
-        return Answer::Refused(refused::MISSING);
-    };
-    let sums = subtree::sums(a, id, i);
-    Answer::TotalsOf(sums)
+    let i = area::find_budget(a, id).ok_or(Refusal::Missing)?;
+    Ok(subtree::sums(a, id, i))
 }
 
 // The place of an object that is there.
@@ -259,63 +196,47 @@ fn payer_place(a: &[u8], payer: u64) -> usize
     requires payer_value { has (decode a.now) payer ≡ true }
     ensures { Here no_row (decode a.now).rows payer result }
 {
-    match area::find(a, payer) {
-        Found::At(i) => i,
-        Found::Nothing => 0,
-    }
+    area::find(a, payer).unwrap()
 }
 
 // The budget payer, which stands at place j, gets this account, and then the object id, at place i, this charge.
-fn book(
-    a: &mut [u8],
-    j: usize,
-    payer: u64,
-    account: Account,
-    i: usize,
-    id: u64,
-    charge: u64,
-) -> Answer
+fn book(a: &mut [u8], j: usize, payer: u64, account: Account, i: usize, id: u64, charge: u64)
     requires well_formed { WellFormed a.old }
     requires here { Here no_row (decode a.old).rows payer j }
     requires here_2 { Here no_row (decode a.old).rows id i }
-    ensures { (result ≡ answer.Done) × Leaves a.new (object id (λ _. charge) (budget payer (λ _. account) (decode a.old))) }
+    ensures { Leaves a.new (object id (λ _. charge) (budget payer (λ _. account) (decode a.old))) }
 {
     area::set_account(a, j, payer, account);
     area::set_charge(a, i, id, charge);
-    Answer::Done
 }
 
-pub fn charge_more(a: &mut [u8], id: u64, bytes: u64) -> Answer
+pub fn charge_more(a: &mut [u8], id: u64, bytes: u64) -> Result<(), Refusal>
     requires { sound_area a.old ≡ true }
-    ensures { Serves (charge_more id bytes) a.old result a.new }
+    ensures { Serves (charge_more id bytes) answer.nothing a.old result a.new }
 {
-    let Found::At(i) = area::find(a, id) else {
-        return Answer::Refused(refused::MISSING);
-    };
+    let i = area::find(a, id).ok_or(Refusal::Missing)?;
     let e = area::entry_at(a, i);
     let j = payer_place(a, e.payer);
     let account = account_at(a, j);
-    let Booked::Yes(paid) = accounts::charge(account, bytes) else {
-        return Answer::Refused(refused::LIMIT);
-    };
-    book(a, j, e.payer, paid, i, id, e.charge + bytes)
+    let paid = accounts::charge(account, bytes).ok_or(Refusal::Limit)?;
+    book(a, j, e.payer, paid, i, id, e.charge + bytes);
+    Ok(())
 }
 
-pub fn uncharge(a: &mut [u8], id: u64, bytes: u64) -> Answer
+pub fn uncharge(a: &mut [u8], id: u64, bytes: u64) -> Result<(), Refusal>
     requires { sound_area a.old ≡ true }
-    ensures { Serves (uncharge id bytes) a.old result a.new }
+    ensures { Serves (uncharge id bytes) answer.nothing a.old result a.new }
 {
-    let Found::At(i) = area::find(a, id) else {
-        return Answer::Refused(refused::MISSING);
-    };
+    let i = area::find(a, id).ok_or(Refusal::Missing)?;
     let e = area::entry_at(a, i);
     if bytes > e.charge {
-        return Answer::Refused(refused::CHARGE);
+        return Err(Refusal::Charge);
     }
     let j = payer_place(a, e.payer);
     let account = account_at(a, j);
     let paid = accounts::credit(account, bytes);
-    book(a, j, e.payer, paid, i, id, e.charge - bytes)
+    book(a, j, e.payer, paid, i, id, e.charge - bytes);
+    Ok(())
 }
 
 // Is the object at place i another one, which id pays for?
@@ -324,13 +245,7 @@ fn pays_at(a: &[u8], i: usize, id: u64) -> bool
     requires i_in_bounds { i < length (decode a.now).rows }
     ensures { result ≡ (not (eqb (get_or (decode a.now).rows i no_row).id id) && eqb (get_or (decode a.now).rows i no_row).it.payer id) }
 {
-    if area::id_at(a, i) == id {
-        return false;
-    }
-    if area::payer_at(a, i) != id {
-        return false;
-    }
-    true
+    area::id_at(a, i) != id && area::payer_at(a, i) == id
 }
 
 // Does id pay for any other object?
@@ -338,62 +253,55 @@ fn pays(a: &[u8], id: u64) -> bool
     requires { WellFormed a.now }
     ensures { result ≡ pays_for (decode a.now) id }
 {
-    let n = area::count(a);
-    let mut i = 0;
-    while i < n {
+    for i in 0..area::count(a) {
         if pays_at(a, i, id) {
             return true;
         }
-        i += 1;
     }
     false
 }
 
 // The budget payer, which stands at place j, gets this account, and the object at place i is taken out.
-fn release(a: &mut [u8], j: usize, payer: u64, account: Account, i: usize) -> Answer
+fn release(a: &mut [u8], j: usize, payer: u64, account: Account, i: usize)
     requires well_formed { WellFormed a.old }
     requires here { Here no_row (decode a.old).rows payer j }
     requires i_in_bounds { i < length (decode a.old).rows }
-    ensures { (result ≡ answer.Done) × Leaves a.new (with_rows (remove_at (budget payer (λ _. account) (decode a.old)).rows i) (decode a.old)) }
+    ensures { Leaves a.new (with_rows (remove_at (budget payer (λ _. account) (decode a.old)).rows i) (decode a.old)) }
 {
     area::set_account(a, j, payer, account);
     area::take_out(a, i);
-    Answer::Done
 }
 
 // A removed budget's payer is renewed, and then gets the child back. On a sound area a budget that pays for nothing can be returned.
-pub fn remove(a: &mut [u8], id: u64, time: u64) -> Answer
+pub fn remove(a: &mut [u8], id: u64, time: u64) -> Result<(), Refusal>
     requires { sound_area a.old ≡ true }
-    ensures { Serves (remove id time) a.old result a.new }
+    ensures { Serves (remove id time) answer.nothing a.old result a.new }
 {
-    let Found::At(i) = area::find(a, id) else {
-        return Answer::Refused(refused::MISSING);
-    };
+    let i = area::find(a, id).ok_or(Refusal::Missing)?;
     if id == area::ROOT {
-        return Answer::Refused(refused::ROOT);
+        return Err(Refusal::Root);
     }
     let e = area::entry_at(a, i);
     let j = payer_place(a, e.payer);
     let account = account_at(a, j);
-    if e.kind != Kind::BUDGET_CODE {
+    if !e.kind.is_budget() {
         let paid = accounts::credit(account, e.charge);
-        return release(a, j, e.payer, paid, i);
+        release(a, j, e.payer, paid, i);
+        return Ok(());
     }
     if pays(a, id) {
-        return Answer::Refused(refused::PAYS);
+        return Err(Refusal::Pays);
     }
     let child = e.account;
     let returned = accounts::give_back(account, child, time);
     let paid = accounts::credit(returned, e.charge);
-    release(a, j, e.payer, paid, i)
+    release(a, j, e.payer, paid, i);
+    Ok(())
 }
 
-pub fn pays_for_anything(a: &[u8], id: u64) -> Answer
+pub fn pays_for_anything(a: &[u8], id: u64) -> Result<bool, Refusal>
     requires { sound_area a.now ≡ true }
-    ensures { Serves (pays_for_anything id) a.now result a.now }
+    ensures { Serves (pays_for_anything id) answer.pays_of a.now result a.now }
 {
-    if pays(a, id) {
-        return Answer::Pays;
-    }
-    Answer::PaysNothing
+    Ok(pays(a, id))
 }

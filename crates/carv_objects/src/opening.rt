@@ -6,11 +6,9 @@ ghost use Rattle.carv_objects.specs.Laws.Rows.{row};
 ghost use Rattle.carv_objects.specs.Laws.Formed.{Formed};
 ghost use Rattle.carv_objects.specs.Laws.Opening.{rooted};
 
-use crate::accounts::Booked;
-use crate::kinds::Kind;
-use crate::{Answer, accounts, area, refused, rows};
+use crate::{Refusal, accounts, area, rows};
 use carv_budget::Account;
-use carv_objects_spec::Entry;
+use carv_objects_spec::{Entry, Kind};
 
 // The table t with this object alone.
 fn write_only(t: &mut [u8], id: u64, e: Entry)
@@ -39,7 +37,7 @@ fn start(a: &mut [u8], account: Account)
         a,
         area::ROOT,
         Entry {
-            kind: Kind::BUDGET_CODE,
+            kind: Kind::Budget,
             payer: area::ROOT,
             charge: 0,
             account,
@@ -49,15 +47,13 @@ fn start(a: &mut [u8], account: Account)
 }
 
 // Questions 1, of the length alone, and 2, then the root budget with this share.
-pub fn open(area: &mut [u8], cpu: u64, memory: u64) -> Answer
+pub fn open(area: &mut [u8], cpu: u64, memory: u64) -> Result<(), Refusal>
     ensures { Opened cpu memory area.old result area.new }
 {
     if area.len() != area::BYTES {
-        return Answer::Refused(refused::UNSOUND);
+        return Err(Refusal::Unsound);
     }
-    let Booked::Yes(account) = accounts::opened(cpu, memory) else {
-        return Answer::Refused(refused::SHARE);
-    };
+    let account = accounts::opened(cpu, memory).ok_or(Refusal::Share)?;
     start(area, account);
-    Answer::Done
+    Ok(())
 }

@@ -6,7 +6,7 @@ ghost use Rattle.carv_objects.specs.Area.{fields, row_at, rows_in};
 ghost use Rattle.carv_objects.specs.Laws.Rows.{row, set_account, set_row};
 
 use carv_budget::Account;
-use carv_objects_spec::Entry;
+use carv_objects_spec::{Entry, Kind};
 
 // How many words a row has, and which of them is what, counted from the word before the row.
 pub const ROW: usize = 11;
@@ -39,28 +39,18 @@ pub fn read_entry(t: &[u8], i: usize) -> Entry
     ensures { result ≡ (row_at (words t.now) i).it }
 {
     let o = i * ROW;
-    let kind = carv_area::get(t, o + KIND);
-    let payer = carv_area::get(t, o + PAYER);
-    let charge = carv_area::get(t, o + CHARGE);
-    let cpu_allowance = carv_area::get(t, o + CPU_ALLOWANCE);
-    let memory_limit = carv_area::get(t, o + MEMORY_LIMIT);
-    let period_start = carv_area::get(t, o + PERIOD_START);
-    let cpu_left = carv_area::get(t, o + CPU_LEFT);
-    let cpu_reserved = carv_area::get(t, o + CPU_RESERVED);
-    let memory_used = carv_area::get(t, o + MEMORY_USED);
-    let memory_reserved = carv_area::get(t, o + MEMORY_RESERVED);
     Entry {
-        kind,
-        payer,
-        charge,
+        kind: Kind::of_code(carv_area::get(t, o + KIND)),
+        payer: carv_area::get(t, o + PAYER),
+        charge: carv_area::get(t, o + CHARGE),
         account: Account {
-            cpu_allowance,
-            memory_limit,
-            period_start,
-            cpu_left,
-            cpu_reserved,
-            memory_used,
-            memory_reserved,
+            cpu_allowance: carv_area::get(t, o + CPU_ALLOWANCE),
+            memory_limit: carv_area::get(t, o + MEMORY_LIMIT),
+            period_start: carv_area::get(t, o + PERIOD_START),
+            cpu_left: carv_area::get(t, o + CPU_LEFT),
+            cpu_reserved: carv_area::get(t, o + CPU_RESERVED),
+            memory_used: carv_area::get(t, o + MEMORY_USED),
+            memory_reserved: carv_area::get(t, o + MEMORY_RESERVED),
         },
     }
 }
@@ -86,12 +76,11 @@ pub fn write_entry(t: &mut [u8], i: usize, id: u64, e: Entry)
     ensures { words t.new ≡ set_row (words t.old) i (row id e) }
 {
     let o = i * ROW;
-    let account = e.account;
     carv_area::put(t, o + ID, id);
-    carv_area::put(t, o + KIND, e.kind);
+    carv_area::put(t, o + KIND, e.kind.code());
     carv_area::put(t, o + PAYER, e.payer);
     carv_area::put(t, o + CHARGE, e.charge);
-    write_account(t, i, account);
+    write_account(t, i, e.account);
 }
 
 // The entry e under the id behind the others of the table t, which has room.

@@ -3,52 +3,62 @@
 // payer's figures. These count down from the stored figure, so that no sum can wrap, and must end at 0.
 // specs/Laws/SoundWalk.antt says what the walk knows at each row, and specs/Laws/SoundBridge.antt that this is question 1.
 ghost use Rattle.std.specs.Prelude.{◌≡◌, ◌+◌, ◌*◌, ◌≤◌, ◌<◌, length, get_or};
+ghost use Rattle.std.specs.List.{list_all};
 ghost use Rattle.carv_area.specs.Words.{words};
-ghost use Rattle.carv_area.specs.Zero.{all_zero};
 ghost use Rattle.carv_objects.specs.Area.{sound_area};
-ghost use Rattle.carv_objects.specs.Laws.SoundWalk.{Tells, Plain, Rise, Place, Owner, Front, Walk, Whole, Turned, Took, ReservedFor, SoundTable};
+ghost use Rattle.carv_objects.specs.Laws.Entry.{asked_sound};
+ghost use Rattle.carv_objects.specs.Laws.SoundWalk.{Tells, Plain, Rise, Place, Owner, Front, Walk, Whole, Turned, Lessened, ReservedFor, SoundTable, spent};
 
-use crate::kinds::Kind;
-use crate::{area, rows};
-use carv_area::Found;
-use carv_objects_spec::Entry;
+use crate::{Refusal, area, rows};
+use carv_objects_spec::{Entry, Kind};
 
-// Is an entry in order by itself?
-fn is_plain(e: Entry) -> bool
-    ensures { Tells result (Plain e) }
+// What is left of the figures of a row's account that are sums.
+#[derive(Clone, Copy)]
+struct Figures {
+    used: u64,
+    memory: u64,
+    cpu: u64,
+}
+
+impl Figures {
+    const NONE: Figures = Figures {
+        used: 0,
+        memory: 0,
+        cpu: 0,
+    };
+
+    // What is left where these are taken off, if they can be.
+    fn checked_sub(self, taken: Figures) -> Option<Figures>
+        ensures { Lessened self taken result }
+    {
+        Some(Figures {
+            used: self.used.checked_sub(taken.used)?,
+            memory: self.memory.checked_sub(taken.memory)?,
+            cpu: self.cpu.checked_sub(taken.cpu)?,
+        })
+    }
+}
+
+// Is an entry in order by itself, whose kind is stored as this code?
+fn is_plain(code: u64, e: Entry) -> bool
+    ensures { Tells result (Plain code e) }
 {
-    if !Kind::is_listed(e.kind) {
-        return false;
-    }
     let a = e.account;
-    if !a.is_sound() {
-        return false;
-    }
-    if e.kind != Kind::BUDGET_CODE {
-        if a.cpu_allowance != 0 {
-            return false;
-        }
-        if a.memory_limit != 0 {
-            return false;
-        }
-        if a.period_start != 0 {
-            return false;
-        }
-    }
-    true
+    Kind::is_listed(code)
+        && a.is_sound()
+        && (e.kind.is_budget()
+            || (a.cpu_allowance == 0 && a.memory_limit == 0 && a.period_start == 0))
 }
 
 // The place below i whose id is p. guess is tried first.
-fn place(t: &[u8], i: usize, p: u64, guess: usize) -> Found
+// By hand: the ids stand in lent bytes, and carv_area::find asks that all rows' ids rise, where only the first i are known to.
+fn place(t: &[u8], i: usize, p: u64, guess: usize) -> Option<usize>
     requires i_in_bounds { i * 88 + 8 ≤ length t.now }
     requires rise { Rise (words t.now) i }
     ensures { Place (words t.now) i p result }
 {
-    if guess < i {
-        let x = carv_area::get(t, guess * rows::ROW + rows::ID);
-        if x == p {
-            return Found::At(guess);
-        }
+    if guess < i && carv_area::get(t, guess * rows::ROW + rows::ID) == p {
+        return Some(guess);
     }
     let mut lo = 0;
     let mut len = i;
@@ -56,21 +66,15 @@ fn place(t: &[u8], i: usize, p: u64, guess: usize) -> Found
         let half = len / 2;
         let x = carv_area::get(t, (lo + half) * rows::ROW + rows::ID);
         if x <= p {
-            lo = lo + half;
+            lo += half;
         }
-        len = len - half;
+        len -= half;
     }
-    if lo < i {
-        let x = carv_area::get(t, lo * rows::ROW + rows::ID);
-        if x == p {
-            return Found::At(lo);
-        }
-    }
-    Found::Nothing
+    (lo < i && carv_area::get(t, lo * rows::ROW + rows::ID) == p).then_some(lo)
 }
 
 // The place of row i's payer, if row i fits the rows before it.
-fn owner(t: &[u8], i: usize, next: u64, guess: usize) -> Found
+fn owner(t: &[u8], i: usize, next: u64, guess: usize) -> Option<usize>
     requires i_in_bounds { i * 88 + 96 ≤ length t.now }
     requires front { Front (words t.now) next i }
     ensures { Owner (words t.now) next i result }
@@ -79,107 +83,70 @@ fn owner(t: &[u8], i: usize, next: u64, guess: usize) -> Found
     let id = carv_area::get(t, o + rows::ID);
     let payer = carv_area::get(t, o + rows::PAYER);
     if id >= next {
-        return Found::Nothing;
+        return None;
     }
     if i == 0 {
-        let kind = carv_area::get(t, o + rows::KIND);
-        if id != area::ROOT {
-            return Found::Nothing;
-        }
-        if payer != area::ROOT {
-            return Found::Nothing;
-        }
-        if kind != Kind::BUDGET_CODE {
-            return Found::Nothing;
-        }
-        return Found::At(i);
+        let kind = Kind::of_code(carv_area::get(t, o + rows::KIND));
+        return (id == area::ROOT && payer == area::ROOT && kind.is_budget()).then_some(i);
     }
     let before = carv_area::get(t, (i - 1) * rows::ROW + rows::ID);
     if id <= before {
-        return Found::Nothing;
+        return None;
     }
-    let Found::At(j) = place(t, i, payer, guess) else {
-        return Found::Nothing;
-    };
-    let kind = carv_area::get(t, j * rows::ROW + rows::KIND);
-    if kind != Kind::BUDGET_CODE {
-        return Found::Nothing;
-    }
-    Found::At(j)
-}
-
-// x is taken off s[j], if it can be.
-fn take(s: &mut [u64], j: usize, x: u64) -> bool
-    requires { j < length s.old }
-    ensures { Took s.old j x result s.new }
-{
-    let y = s[j];
-    if x > y {
-        return false;
-    }
-    s[j] = y - x;
-    true
+    let j = place(t, i, payer, guess)?;
+    let kind = Kind::of_code(carv_area::get(t, j * rows::ROW + rows::KIND));
+    kind.is_budget().then_some(j)
 }
 
 // What row i's payer reserves for row i, whose limit is x: the root is not its own child.
 fn reserved_for(i: usize, x: u64) -> u64
     ensures { ReservedFor i x result }
 {
-    if i == 0 {
-        return 0;
-    }
-    x
+    if i == 0 { 0 } else { x }
 }
 
 // Row i: is it in order, and can what it takes be taken off its payer's figures?
-fn turn(
-    t: &[u8],
-    i: usize,
-    next: u64,
-    used: &mut [u64],
-    memory: &mut [u64],
-    cpu: &mut [u64],
-    guess: usize,
-) -> bool
+fn turn(t: &[u8], i: usize, next: u64, figures: &mut [Figures; area::PLACES], guess: usize) -> bool
     requires i_in_bounds { i * 88 + 96 ≤ length t.now }
     requires i_bound { i < 512 }
     requires i_bound_2 { i < get_or (words t.now) 0 0 }
-    requires walk { Walk (words t.now) next i used.old memory.old cpu.old }
-    ensures { Turned (words t.now) next i result used.new memory.new cpu.new }
+    requires walk { Walk (words t.now) next i figures.old }
+    ensures { Turned (words t.now) next i result figures.new }
 {
+    let code = carv_area::get(t, i * rows::ROW + rows::KIND);
     let e = rows::read_entry(t, i);
-    if !is_plain(e) {
+    if !is_plain(code, e) {
         return false;
     }
-    let Found::At(j) = owner(t, i, next, guess) else {
+    let Some(j) = owner(t, i, next, guess) else {
         return false;
     };
     let a = e.account;
-    used[i] = a.memory_used;
-    memory[i] = a.memory_reserved;
-    cpu[i] = a.cpu_reserved;
-    if !take(used, j, e.charge) {
+    figures[i] = Figures {
+        used: a.memory_used,
+        memory: a.memory_reserved,
+        cpu: a.cpu_reserved,
+    };
+    let taken = Figures {
+        used: e.charge,
+        memory: reserved_for(i, a.memory_limit),
+        cpu: reserved_for(i, a.cpu_allowance),
+    };
+    let Some(left) = figures[j].checked_sub(taken) else {
         return false;
-    }
-    let m = reserved_for(i, a.memory_limit);
-    if !take(memory, j, m) {
-        return false;
-    }
-    let c = reserved_for(i, a.cpu_allowance);
-    take(cpu, j, c)
+    };
+    figures[j] = left;
+    true
 }
 
-// Zeros only?
-fn is_zero(s: &[u64]) -> bool
-    ensures { result ≡ all_zero s.now }
+// Is nothing left?
+fn are_spent(figures: &[Figures]) -> bool
+    ensures { result ≡ list_all spent figures.now }
 {
-    let mut i = 0;
-    let mut x: u64 = 0;
-    while i < s.len() {
-        x |= s[i];
-        i += 1;
-    }
-    x == 0
+    // A fold, since question 1 is measured: `all` stops early and is a branch a row.
+    figures.iter().fold(true, |spent, f| {
+        spent & (f.used == 0) & (f.memory == 0) & (f.cpu == 0)
+    })
 }
 
 // Are the n rows in order, and each budget's figures the sums? The place of a payer is guessed from its id.
@@ -192,30 +159,17 @@ fn whole(t: &[u8], n: usize, next: u64) -> bool
     if n == 0 {
         return false;
     }
-    let mut used = [0u64; area::PLACES];
-    let mut memory = [0u64; area::PLACES];
-    let mut cpu = [0u64; area::PLACES];
+    let mut figures = [Figures::NONE; area::PLACES];
     let mut places = [0usize; area::PLACES];
-    let mut i = 0;
-    while i < n {
-        let payer = carv_area::get(t, i * rows::ROW + rows::PAYER);
-        let q = (payer % area::GUESSES) as usize;
-        let guess = places[q];
-        if !turn(t, i, next, &mut used, &mut memory, &mut cpu, guess) {
+    for i in 0..n {
+        let from = area::note(carv_area::get(t, i * rows::ROW + rows::PAYER));
+        if !turn(t, i, next, &mut figures, places[from]) {
             return false;
         }
-        let id = carv_area::get(t, i * rows::ROW + rows::ID);
-        let q = (id % area::GUESSES) as usize;
-        places[q] = i;
-        i += 1;
+        let to = area::note(carv_area::get(t, i * rows::ROW + rows::ID));
+        places[to] = i;
     }
-    if !is_zero(&used) {
-        return false;
-    }
-    if !is_zero(&memory) {
-        return false;
-    }
-    is_zero(&cpu)
+    are_spent(&figures)
 }
 
 // Question 1 of the table t.
@@ -224,22 +178,24 @@ fn table_is_sound(t: &[u8], next: u64) -> bool
     ensures { Tells result (SoundTable (words t.now) next) }
 {
     let n = carv_area::get(t, 0) as usize;
-    if n > area::PLACES {
-        return false;
-    }
-    if !carv_area::zero_from(t, n * rows::ROW + rows::ID) {
-        return false;
-    }
-    whole(t, n, next)
+    n <= area::PLACES && carv_area::zero_from(t, n * rows::ROW + rows::ID) && whole(t, n, next)
 }
 
 // Question 1.
 pub fn is_sound(area: &[u8]) -> bool
     ensures { result ≡ sound_area area.now }
 {
-    if area.len() != area::BYTES {
-        return false;
+    area.len() == area::BYTES
+        && table_is_sound(&area[area::TABLE..area::BYTES], area::next_id(area))
+}
+
+// The same in front of a call: no is a refusal.
+pub fn ask_sound(area: &[u8]) -> Result<(), Refusal>
+    ensures { result ≡ asked_sound (sound_area area.now) }
+{
+    if is_sound(area) {
+        Ok(())
+    } else {
+        Err(Refusal::Unsound)
     }
-    let next = area::next_id(area);
-    table_is_sound(&area[area::TABLE..area::BYTES], next)
 }

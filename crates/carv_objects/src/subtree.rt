@@ -11,8 +11,13 @@ ghost use Rattle.carv_objects.specs.Laws.Formed.{WellFormed};
 ghost use Rattle.carv_objects.specs.Laws.TotalSteps.{Marked, Part};
 
 use crate::{area, calls};
-use carv_area::Found;
 use carv_objects_spec::Totals;
+
+const NOTHING: Totals = Totals {
+    memory_used: 0,
+    memory_free: 0,
+    cpu_left: 0,
+};
 
 // The place of an object that is there. guess is tried first.
 fn place(a: &[u8], id: u64, guess: usize) -> usize
@@ -20,10 +25,7 @@ fn place(a: &[u8], id: u64, guess: usize) -> usize
     requires id_value { has (decode a.now) id ≡ true }
     ensures { Here no_row (decode a.now).rows id result }
 {
-    match area::find_near(a, id, guess) {
-        Found::At(i) => i,
-        Found::Nothing => 0,
-    }
+    area::find_near(a, id, guess).unwrap()
 }
 
 // Is the object id, which is there, within the budget b? From payer to payer up to the root: the id falls at each call. The first
@@ -65,11 +67,7 @@ fn is_row_within(a: &[u8], b: u64, i: usize, guess: usize, marks: &[bool; area::
     requires marked { Marked (decode a.now) b marks.now i }
     ensures { result ≡ within (decode a.now) b (get_or (decode a.now).rows i no_row).id }
 {
-    if area::id_at(a, i) == b {
-        return true;
-    }
-    let payer = area::payer_at(a, i);
-    is_within(&a, b, payer, guess, marks, i)
+    area::id_at(a, i) == b || is_within(&a, b, area::payer_at(a, i), guess, marks, i)
 }
 
 // The figures of the account at place i, if they count.
@@ -79,31 +77,14 @@ fn part(a: &[u8], i: usize, counts: bool) -> Totals
     ensures { Part (decode a.now) i counts result }
 {
     if !counts {
-        return Totals {
-            memory_used: 0,
-            memory_free: 0,
-            cpu_left: 0,
-        };
+        return NOTHING;
     }
     let c = calls::account_at(a, i);
-    let free = c.free();
     Totals {
         memory_used: c.memory_used,
-        memory_free: free,
+        memory_free: c.free(),
         cpu_left: c.cpu_left,
     }
-}
-
-// Where the place of an id is noted.
-fn note(id: u64) -> usize
-    ensures { result < 512 }
-{
-    (id % area::GUESSES) as usize
-}
-
-// A noted place.
-fn wide(place: u16) -> usize {
-    place as usize
 }
 
 // The sums over the budget b, which stands at place j, and all below it. What is no budget has an account of zeros. The place of a
@@ -114,29 +95,20 @@ pub fn sums(a: &[u8], b: u64, j: usize) -> Totals
     requires b_value { is_budget (decode a.now) b ≡ true }
     ensures { result ≡ totals (decode a.now) b }
 {
-    let n = area::count(a);
     let mut marks = [false; area::PLACES];
+    // u16: the stack of a C function is held to 18,432 bytes, which tools/stack asks, and usize misses it.
     let mut places = [0u16; area::PLACES];
-    let mut used = 0;
-    let mut free = 0;
-    let mut left = 0;
-    let mut i = 0;
-    while i < n {
-        let from = note(area::payer_at(a, i));
-        let guess = wide(places[from]);
-        let inside = is_row_within(a, b, i, guess, &marks);
+    let mut sums = NOTHING;
+    for i in 0..area::count(a) {
+        let from = area::note(area::payer_at(a, i));
+        let inside = is_row_within(a, b, i, usize::from(places[from]), &marks);
         marks[i] = inside;
-        let to = note(area::id_at(a, i));
+        let to = area::note(area::id_at(a, i));
         places[to] = i as u16;
         let p = part(a, i, inside);
-        used += p.memory_used;
-        free += p.memory_free;
-        left += p.cpu_left;
-        i += 1;
+        sums.memory_used += p.memory_used;
+        sums.memory_free += p.memory_free;
+        sums.cpu_left += p.cpu_left;
     }
-    Totals {
-        memory_used: used,
-        memory_free: free,
-        cpu_left: left,
-    }
+    sums
 }

@@ -1,4 +1,4 @@
--- What is proved of the definitions. Questions: each question of each call. Removal: what a removal leaves, P2. Question15: what a removal need not ask, P12. Within,
+-- What is proved of the definitions. Kinds: each kind has its code, and each listed code its kind. Questions: each question of each call. Removal: what a removal leaves, P2. Question15: what a removal need not ask, P12. Within,
 -- Totals: P1's "below" and sums; BookTotals: those of the book; TotalsCases: a tree of budgets, written out. Charging: charges added, split, undone and in another order, P7;
 -- BookCharging: these by the book; ChargingCases: a few budgets, written out. Spending: P3's invariant, and its steps; Overspending, Listed: each call keeps it, and the ledger has
 -- every live budget; LedgerWithin: its "below" is P1's; Noted: it notes what the book takes, and strikes nothing out; Clock: what
@@ -6,6 +6,7 @@
 -- Refines, Demand2: the calls, and lists of them, are the Rust's. Panics: the Rust doesn't; PanicCases: its lists of what can panic, written out. History: the book's figures
 -- are the lines; Sentences says it field by field. Added, Limits, Edges, Unsound: which refusals are added, codes and limits, document 01's marked cases, and what is not sound,
 -- written out. The others serve these.
+pub mod Kinds
 pub mod SoundFacts
 pub mod SoundLaws
 pub mod Steps

@@ -1,10 +1,9 @@
 -- Document 01's book, its half for the registry: what demand 3's figures are worked from. It is fed each call's arguments and its refusal number (0: accepted),
 -- and never sees the registry. Assumes nothing.
-use Rattle.std.specs.Prelude.{Bool, true, false, cond, ◌&&◌, List, [], ◌∷◌, ◌++◌, ℕ, suc, ◌+◌, ◌-◌, ◌%◌, ◌≤◌, eqb, leb}
-use Rattle.std.proofs.Math.Option.{Option, none, some}
+use Rattle.std.specs.Prelude.{Bool, true, false, cond, ◌&&◌, List, [], ◌∷◌, ◌++◌, ℕ, suc, ◌+◌, ◌-◌, ◌%◌, ◌≤◌, eqb, leb, Option, Some, None}
 use Rattle.carv_area.specs.Table.{Row, at, alter, erase}
 use Rattle.carv_budget.specs.Account.{period}
-use Rattle.carv_objects_spec.specs.Registry.{bytes_of}
+use Rattle.carv_objects_spec.specs.Kinds.{kind_of, bytes_of}
 
 -- "objects with payer and charge"
 pub record Object : Type 0 where
@@ -85,16 +84,16 @@ new_budget cpu memory start = record {
 -- Reading. An id without an object or a live budget reads as zeros.
 
 abbrev pub or_no_object : Option Object → Object
-or_no_object none = record { payer = 0; charge = 0 }
-or_no_object (some o) = o
+or_no_object None = record { payer = 0; charge = 0 }
+or_no_object (Some o) = o
 
 abbrev pub or_no_budget : Option Budget → Budget
-or_no_budget none = new_budget 0 0 0
-or_no_budget (some b) = b
+or_no_budget None = new_budget 0 0 0
+or_no_budget (Some b) = b
 
 abbrev pub is_some : {A : Type 0} → Option A → Bool
-is_some none = false
-is_some (some a) = true
+is_some None = false
+is_some (Some a) = true
 
 abbrev pub object_of : Book → ℕ → Object
 object_of k i = or_no_object (at k.objects i)
@@ -191,7 +190,7 @@ add_budget b k = record { next = k.next; objects = k.objects; budgets = k.budget
 abbrev pub remove_object : ℕ → Book → Book
 remove_object i k = record { next = k.next; objects = erase i k.objects; budgets = erase i k.budgets }
 
--- The calls of the registry.
+-- The calls of the registry. A kind is given by its code.
 pub data Call : Type 0 where
   create : (kind payer : ℕ) (backing : Bool) → Call
   insert : (kind payer bytes : ℕ) → Call
@@ -208,7 +207,7 @@ pub data Call : Type 0 where
 
 -- what an accepted call writes
 abbrev pub accepted : Call → Book → Book
-accepted (create kind payer backing) k = add_object payer (bytes_of kind) (on_budget payer (charge (bytes_of kind)) k)
+accepted (create n payer backing) k = add_object payer (bytes_of (kind_of n)) (on_budget payer (charge (bytes_of (kind_of n))) k)
 accepted (insert kind payer bytes) k = add_object payer bytes (on_budget payer (charge bytes) k)
 accepted (create_budget parent cpu memory time) k =
     add_object parent 128 (add_budget (new_budget cpu memory (renew time (budget_of k parent)).start)

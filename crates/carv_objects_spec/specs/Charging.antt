@@ -1,7 +1,6 @@
 -- P7, "Adding and splitting charges": what its sentences are said with. "The memory team books pages singly and in bulk." laws/Charging.antt has the sentences.
 -- Assumes nothing.
-use Rattle.std.specs.Prelude.{◌≡◌, Bool, true, cond, not, ◌&&◌, List, [], ◌∷◌, ℕ, ◌+◌, eqb}
-use Rattle.std.proofs.Math.Option.{Option}
+use Rattle.std.specs.Prelude.{◌≡◌, Bool, true, cond, not, ◌&&◌, List, [], ◌∷◌, ℕ, ◌+◌, eqb, Option}
 use Rattle.carv_objects_spec.specs.Reply.{Value}
 use Rattle.carv_objects_spec.specs.Registry.{Registry, RegistryReply, has, payer_of, charge_more}
 

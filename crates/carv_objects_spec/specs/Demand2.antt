@@ -1,30 +1,29 @@
 -- What demand 2 is said with, for lists of the registry's calls: what the Rust replies to a call, what of a reply is compared with it, which refusals are added, and the
 -- replies to a list on both sides. Assumes nothing.
-use Rattle.std.specs.Prelude.{◌≡◌, Bool, true, false, cond, List, [], ◌∷◌, ℕ}
-use Rattle.std.proofs.Math.Option.{none, some}
+use Rattle.std.specs.Prelude.{◌≡◌, Bool, true, false, cond, List, [], ◌∷◌, ℕ, Some, None}
 use Rattle.carv_objects_spec.specs.Reply.{accept, pays, of_account, charge, without_answer}
 use Rattle.carv_objects_spec.specs.Registry.{Registry, RegistryReply}
 use Rattle.carv_objects_spec.specs.Rust as rust
 use Rattle.carv_objects_spec.specs.Book.{Call, create, insert, create_budget, charge_more, uncharge, remove, refill, charge_cpu, pays_for_anything, read_account, charge_of, read_totals}
-use Rattle.carv_objects_spec.specs.Replies.{reply_of, cpu_reply_of, reading_of, an_id, nothing, a_renewal}
+use Rattle.carv_objects_spec.specs.Replies.{reply_of, cpu_reply_of, reading_of, of_type, an_id, nothing, a_renewal}
 use Rattle.carv_objects_spec.specs.Refused.{added, added_to_uncharge}
 use Rattle.carv_objects_spec.specs.Runs.{run}
 
 -- the Rust's method, its result in the port's words
 abbrev pub rust_run : Call → Registry → RegistryReply
-rust_run (create kind payer backing) r = reply_of an_id 13 (rust.create kind payer backing r)
-rust_run (insert kind payer bytes) r = reply_of an_id 13 (rust.insert payer kind bytes r)
+rust_run (create n payer backing) r = of_type (rust.from_raw n) (λ ty. reply_of an_id 13 (rust.create ty payer backing r)) r
+rust_run (insert n payer bytes) r = of_type (rust.from_raw n) (λ ty. reply_of an_id 13 (rust.insert payer ty bytes r)) r
 rust_run (create_budget parent cpu memory time) r = reply_of an_id 13 (rust.create_budget parent cpu memory time r)
 rust_run (charge_more i bytes) r = reply_of nothing 13 (rust.charge_more i bytes r)
-rust_run (uncharge i bytes) r = accept none (rust.uncharge i bytes r)
+rust_run (uncharge i bytes) r = accept None (rust.uncharge i bytes r)
 rust_run (remove i time) r = reply_of nothing 15 (rust.remove i time r)
 rust_run (refill i time) r = reply_of a_renewal 13 (rust.refill i time r)
 rust_run (charge_cpu i ns time) r = cpu_reply_of (rust.charge_cpu i ns time r)
-rust_run (pays_for_anything i) r = accept (some (pays (rust.pays_for_anything i r))) r
+rust_run (pays_for_anything i) r = accept (Some (pays (rust.pays_for_anything i r))) r
 rust_run (read_account i) r = reading_of of_account (rust.budget_mut i r) r
 rust_run (charge_of i) r = reading_of (λ c. charge c.0 c.1) (rust.charge_of i r) r
 -- no method: its registry stays
-rust_run (read_totals i) r = accept none r
+rust_run (read_totals i) r = accept None r
 
 -- P1: "Demand 2 leaves out answers and figures that the Rust lacks, here and later." The one place that says which: a call that the Rust has no method for is answered
 -- without its number and value, so that only the state it leaves is compared.

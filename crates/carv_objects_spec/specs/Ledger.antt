@@ -1,7 +1,6 @@
 -- P3's ledger, its half for the registry: every budget ever carved, with its parent and its allowance, and every charge of CPU time, from which the CPU time charged in a period
 -- to a budget and to all below it is summed. Like the book it is fed each call's arguments and its refusal number (0: accepted), and never sees the registry. Assumes nothing.
-use Rattle.std.specs.Prelude.{◌≡◌, Bool, false, cond, ◌&&◌, ◌||◌, List, [], ◌∷◌, ℕ, ◌+◌, ◌/◌, ◌≤◌, eqb}
-use Rattle.std.proofs.Math.Option.{Option, none, some}
+use Rattle.std.specs.Prelude.{◌≡◌, Bool, false, cond, ◌&&◌, ◌||◌, List, [], ◌∷◌, ℕ, ◌+◌, ◌/◌, ◌≤◌, eqb, Option, Some, None}
 use Rattle.carv_area.specs.Table.{Row, at}
 use Rattle.carv_budget.specs.Account.{period}
 use Rattle.carv_objects_spec.specs.Book.{Call, create, insert, create_budget, charge_more, uncharge, remove, refill, charge_cpu, pays_for_anything, read_account, charge_of, read_totals}
@@ -42,7 +41,7 @@ spent l p b = spent_among l.budgets l.charges p b
 
 -- "In each [period], the CPU charged .. is at most that budget's allowance." Of every budget of the ledger
 abbrev pub NoneOverspent : Ledger → Type 0
-NoneOverspent l = (b : ℕ) (x : Carved) → at l.budgets b ≡ some x → (p : ℕ) → spent l p b ≤ x.allowance
+NoneOverspent l = (b : ℕ) (x : Carved) → at l.budgets b ≡ Some x → (p : ℕ) → spent l p b ≤ x.allowance
 
 -- What is written of the ledger.
 
@@ -79,21 +78,21 @@ opening cpu = record { budgets = record { id = 1; it = record { parent = 1; allo
 
 -- the clock value of a call: its time, where it has one
 abbrev pub clock : Call → Option ℕ
-clock (create kind payer backing) = none
-clock (insert kind payer bytes) = none
-clock (create_budget parent cpu memory time) = some time
-clock (charge_more i bytes) = none
-clock (uncharge i bytes) = none
-clock (remove i time) = some time
-clock (refill i time) = some time
-clock (charge_cpu i ns time) = some time
-clock (pays_for_anything i) = none
-clock (read_account i) = none
-clock (charge_of i) = none
-clock (read_totals i) = none
+clock (create kind payer backing) = None
+clock (insert kind payer bytes) = None
+clock (create_budget parent cpu memory time) = Some time
+clock (charge_more i bytes) = None
+clock (uncharge i bytes) = None
+clock (remove i time) = Some time
+clock (refill i time) = Some time
+clock (charge_cpu i ns time) = Some time
+clock (pays_for_anything i) = None
+clock (read_account i) = None
+clock (charge_of i) = None
+clock (read_totals i) = None
 
 -- "clock values that never fall", after the last one: each, where a call has one, is at or after that before it. laws/Clock.antt says it of any two of them
 abbrev pub NeverFall : (last : ℕ) → List (Option ℕ) → Type 0
 NeverFall last [] = Unit {0}
-NeverFall last (none ∷ ts) = NeverFall last ts
-NeverFall last (some time ∷ ts) = (last ≤ time) × NeverFall time ts
+NeverFall last (None ∷ ts) = NeverFall last ts
+NeverFall last (Some time ∷ ts) = (last ≤ time) × NeverFall time ts

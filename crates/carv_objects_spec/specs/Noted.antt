@@ -1,7 +1,6 @@
 -- What a call notes in P3's ledger: nothing is struck out, each charge bears the call's clock value, and, held against 01's book, of each budget the book takes the CPU time that the
 -- ledger notes as charged to it, and what is carved out of it, and nothing else. Assumes nothing.
-use Rattle.std.specs.Prelude.{◌≡◌, cond, List, [], ◌∷◌, ◌++◌, ℕ, ◌+◌, ◌≤◌, eqb}
-use Rattle.std.proofs.Math.Option.{Option, some}
+use Rattle.std.specs.Prelude.{◌≡◌, cond, List, [], ◌∷◌, ◌++◌, ℕ, ◌+◌, ◌≤◌, eqb, Option, Some}
 use Rattle.carv_area.specs.Table.{Row, at}
 use Rattle.carv_objects_spec.specs.Book.{Book, Budget}
 use Rattle.carv_objects_spec.specs.Ledger.{Carved, Charge, Ledger}
@@ -9,7 +8,7 @@ use Rattle.carv_objects_spec.specs.Ledger.{Carved, Charge, Ledger}
 -- these charges are of this time
 abbrev pub Timed : (time : Option ℕ) → List Charge → Type 0
 Timed time [] = Unit {0}
-Timed time (x ∷ xs) = (time ≡ some x.time) × Timed time xs
+Timed time (x ∷ xs) = (time ≡ Some x.time) × Timed time xs
 
 -- From l to l' nothing is struck out: budgets and charges come in front of those that were there, and the charges are of this time.
 pub record Adds (time : Option ℕ) (l l' : Ledger) : Type 0 where
@@ -32,4 +31,4 @@ pub record Booked (x y : Budget) (c d : ℕ) : Type 0 where
 
 -- the same of budget i, live in the book k and in k'
 abbrev pub Accounted : (k k' : Book) → (c d : ℕ) → (i : ℕ) → Type 0
-Accounted k k' c d i = (x y : Budget) → at k.budgets i ≡ some x → at k'.budgets i ≡ some y → Booked x y c d
+Accounted k k' c d i = (x y : Budget) → at k.budgets i ≡ Some x → at k'.budgets i ≡ Some y → Booked x y c d

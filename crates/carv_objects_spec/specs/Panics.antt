@@ -1,12 +1,12 @@
 -- kernel/src/objects.rs, built with overflow checks: what can panic in each method of `ObjectRegistry`, with its line, over the states that Rust.antt has in between.
 -- A method lists in its order what it computes, the `expect`s that it meets, and what the methods of `Budget` that it calls do. Left out is what belongs to the
 -- host: a frame's address (285). Assumes nothing.
-use Rattle.std.specs.Prelude.{Bool, true, false, cond, ◌&&◌, List, [], ◌∷◌, ◌++◌, ℕ, suc, ◌-◌, eqb}
-use Rattle.std.proofs.Math.Option.{Option, none, some}
+use Rattle.std.specs.Prelude.{Bool, true, false, cond, ◌&&◌, List, [], ◌∷◌, ◌++◌, ℕ, suc, ◌-◌, eqb, Option, Some, None, Result, Ok, Err}
 use Rattle.carv_budget.specs.declared.Account.{Account}
 use Rattle.carv_budget.specs.Rust as budget
 use Rattle.carv_budget.specs.Panics as budget_panics
 use Rattle.carv_budget.specs.Panics.{Check, sum, expect, AllPass}
+use Rattle.carv_objects_spec.specs.declared.kind.Kind.{Kind}
 use Rattle.carv_objects_spec.specs.declared.Entry.{Entry}
 use Rattle.carv_objects_spec.specs.Registry.{Registry}
 use Rattle.carv_objects_spec.specs.Rust as rust
@@ -15,22 +15,22 @@ use Rattle.carv_objects_spec.specs.Book.{Call}
 use Rattle.carv_objects_spec.specs.Demand2.{rust_run}
 
 abbrev pub is_some : {A : Type 0} → Option A → Bool
-is_some none = false
-is_some (some _) = true
+is_some None = false
+is_some (Some _) = true
 
 abbrev pub is_ok : budget.Result Account → Bool
 is_ok (budget.ok _) = true
 is_ok (budget.err _) = false
 
 -- what comes behind a `?`
-abbrev pub if_ok : {A : Type 0} → rust.Result A → List Check → List Check
-if_ok (rust.ok _) checks = checks
-if_ok (rust.err _) checks = []
+abbrev pub if_ok : {A : Type 0} → Result A rust.ObjectError → List Check → List Check
+if_ok (Ok _) checks = checks
+if_ok (Err _) checks = []
 
 -- what is done to something that is there
 abbrev pub if_some : {A : Type 0} → Option A → (A → List Check) → List Check
-if_some none checks = []
-if_some (some a) checks = checks a
+if_some None checks = []
+if_some (Some a) checks = checks a
 
 -- 220 `charge`, 227 `credit`
 unfoldable pub charge : (budget bytes : ℕ) → Registry → List Check
@@ -64,11 +64,11 @@ create_built rust.no_method payer bytes self = credit payer bytes self
 create_built rust.no_backing payer bytes self = credit payer bytes self
 create_built rust.built payer bytes self = credit payer bytes self ++ insert payer bytes (rust.credit payer bytes self)
 
-abbrev pub create : (kind payer : ℕ) (backing : Bool) → Registry → List Check
-create kind payer backing self =
-    let bytes : ℕ = rust.object_bytes kind in
+abbrev pub create : (ty : Kind) (payer : ℕ) (backing : Bool) → Registry → List Check
+create ty payer backing self =
+    let bytes : ℕ = rust.object_bytes ty in
     let charged : rust.Call (Unit {0}) = rust.charge payer bytes self in
-    charge payer bytes self ++ if_ok charged.result (create_built (rust.build kind backing) payer bytes charged.self)
+    charge payer bytes self ++ if_ok charged.result (create_built (rust.build ty backing) payer bytes charged.self)
 
 -- 311 `create_budget`: 319 `self.budget_mut(parent).expect("charged above")`, then 328 `self.next_id += 1`, or the credit where the carve-out is refused
 abbrev pub create_carved : budget.Result Account → (parent : ℕ) → Registry → List Check
@@ -120,8 +120,8 @@ new ids cpu memory = budget_panics.new ids cpu rust.CPU_PERIOD_NS memory 0 ++ (e
 -- Calls. `ids` is `NEXT_BUDGET_ID`, the Rust's counter of budgets ever made.
 
 unfoldable pub checks : Call → (ids : ℕ) → Registry → List Check
-checks (book.create kind payer backing) ids r = create kind payer backing r
-checks (book.insert kind payer bytes) ids r = insert payer bytes r
+checks (book.create n payer backing) ids r = if_some (rust.from_raw n) λ ty. create ty payer backing r
+checks (book.insert n payer bytes) ids r = if_some (rust.from_raw n) λ ty. insert payer bytes r
 checks (book.create_budget parent cpu memory time) ids r = create_budget ids parent cpu memory time r
 checks (book.charge_more i bytes) ids r = charge_more i bytes r
 checks (book.uncharge i bytes) ids r = uncharge i bytes r

@@ -1,7 +1,6 @@
 -- P12, "Number 15 can go": "from every sound state a removal that reaches question 15 passes it, and .. its payer is live". `Registry.remove` asks it no more. Here are 01's
 -- question 15 and the removal that asks it, written out again, for laws/Question15.antt, which shows that on a sound registry the two removals are one. Assumes nothing.
-use Rattle.std.specs.Prelude.{◌≡◌, Bool, true, not, ◌&&◌, ◌||◌, ℕ, ◌≤◌, eqb}
-use Rattle.std.proofs.Math.Option.{none}
+use Rattle.std.specs.Prelude.{◌≡◌, Bool, true, not, ◌&&◌, ◌||◌, ℕ, ◌≤◌, eqb, None}
 use Rattle.carv_budget.specs.Account as account
 use Rattle.carv_objects_spec.specs.Refused as refused
 use Rattle.carv_objects_spec.specs.Reply.{finish, ask, ◌>>◌, on}
@@ -22,7 +21,7 @@ remove_asking_15 i time r = on r do
   ask refused.root (not (eqb i 1))
   ask refused.pays (not (is_budget r i && pays_for r i))
   ask 15 (passes_15 i r)
-  finish none (budget (payer_of r i) (λ a. account.credit (account.return (renew_if (is_budget r i) time a) (account_of r i)) (entry r i).charge) (drop i r))
+  finish None (budget (payer_of r i) (λ a. account.credit (account.return (renew_if (is_budget r i) time a) (account_of r i)) (entry r i).charge) (drop i r))
 
 -- what a removal of i finds that reaches question 15: its payer is a live budget other than i, and the question is passed
 pub record Passed (i : ℕ) (r : Registry) : Type 0 where

@@ -1,11 +1,13 @@
 -- Document 01's object registry: its state, and each call as 01's questions in their order and then the step. Question 1 stands in front of each, in carv_objects/specs/Area.antt.
 -- Assumes nothing.
-use Rattle.std.specs.Prelude.{Bool, true, false, cond, not, ◌&&◌, ◌||◌, List, [], ◌∷◌, ◌++◌, ℕ, suc, ◌+◌, ◌-◌, ◌^◌, min, eqb, ltb, leb, length}
-use Rattle.std.proofs.Math.Option.{Option, none, some}
+use Rattle.std.specs.Prelude.{Bool, true, false, cond, not, ◌&&◌, ◌||◌, List, [], ◌∷◌, ◌++◌, ℕ, suc, ◌+◌, ◌-◌, ◌^◌, min, eqb, ltb, leb, length, Option, Some, None}
 use Rattle.carv_area.specs.Table.{Row, at, alter, erase}
 use Rattle.carv_budget.specs.declared.Account.{Account}
 use Rattle.carv_budget.specs.Account as account
+use Rattle.carv_objects_spec.specs.declared.kind.Kind.{Kind}
+use Rattle.carv_objects_spec.specs.declared.kind.Kind.TheVariants.{Budget, IrqControl}
 use Rattle.carv_objects_spec.specs.declared.Entry.{Entry}
+use Rattle.carv_objects_spec.specs.Kinds.{listed, kind_of, bytes_of, creatable, needs_backing, is_budget_kind}
 use Rattle.carv_objects_spec.specs.Refused as refused
 use Rattle.carv_objects_spec.specs.Reply.{Reply, accept, finish, ask, ◌>>◌, on, from, Value, id, renewed, pays, of_account, charge}
 
@@ -16,16 +18,17 @@ pub record Registry : Type 0 where
 
 -- Reading. An id without an entry reads as `missing`: question 7 stands in front.
 
+-- no budget, nor anything's payer. Of its kind only that is read, so that any other kind that is no budget would do: IrqControl, as an unlisted code reads
 abbrev pub missing : Entry
-missing = record { kind = 0; payer = 0; charge = 0; account = account.blank }
+missing = record { kind = IrqControl; payer = 0; charge = 0; account = account.blank }
 
 abbrev pub or_missing : Option Entry → Entry
-or_missing none = missing
-or_missing (some e) = e
+or_missing None = missing
+or_missing (Some e) = e
 
 abbrev pub found : Option Entry → Bool
-found none = false
-found (some e) = true
+found None = false
+found (Some e) = true
 
 abbrev pub entry : Registry → ℕ → Entry
 entry r i = or_missing (at r.rows i)
@@ -33,12 +36,8 @@ entry r i = or_missing (at r.rows i)
 abbrev pub has : Registry → ℕ → Bool
 has r i = found (at r.rows i)
 
--- "6 Budget"
-abbrev pub budget_kind : ℕ
-budget_kind = 6
-
 abbrev pub is_budget : Registry → ℕ → Bool
-is_budget r i = eqb (entry r i).kind budget_kind
+is_budget r i = is_budget_kind (entry r i).kind
 
 -- a budget's account, and the account of an entry's payer
 abbrev pub account_of : Registry → ℕ → Account
@@ -78,22 +77,6 @@ drop i r = record { next = r.next; rows = erase i r.rows }
 abbrev pub add : Entry → Registry → Registry
 add e r = record { next = suc r.next; rows = r.rows ++ (record { id = r.next; it = e } ∷ []) }
 
--- Kinds: "1 Thread 33,792; 2 AddressSpace 16,384; 3 Frame 4,096; 4 Endpoint 128; 5 Notification 64; 6 Budget 128; 7 Reply 64; 8 Irq 64; 9 IrqControl 64"
-
-abbrev pub listed : ℕ → Bool
-listed k = leb 1 k && leb k 9
-
-abbrev pub bytes_of : ℕ → ℕ
-bytes_of k = cond (eqb k 1) 33_792 (cond (eqb k 2) 16_384 (cond (eqb k 3) 4_096 (cond (eqb k 4 || eqb k 6) 128 64)))
-
--- "the kind must be 2, 3, 4, 5 or 7"
-abbrev pub creatable : ℕ → Bool
-creatable k = eqb k 2 || eqb k 3 || eqb k 4 || eqb k 5 || eqb k 7
-
--- "for 2 and 3, the backing must be there"
-abbrev pub needs_backing : ℕ → Bool
-needs_backing k = eqb k 2 || eqb k 3
-
 -- Question 6: "has the table a place (512 objects), and is the next id below 2^64 − 1?"
 
 abbrev pub most_objects : ℕ
@@ -114,39 +97,39 @@ RegistryReply = Reply Value Registry
 abbrev pub opening : (cpu memory : ℕ) → Registry
 opening cpu memory = record {
   next = 2;
-  rows = record { id = 1; it = record { kind = budget_kind; payer = 1; charge = 0; account = account.fresh cpu memory 0 } } ∷ [];
+  rows = record { id = 1; it = record { kind = Budget; payer = 1; charge = 0; account = account.fresh cpu memory 0 } } ∷ [];
 }
 
 -- an object that is no budget
-abbrev pub plain : (kind payer bytes : ℕ) → Entry
+abbrev pub plain : (kind : Kind) (payer bytes : ℕ) → Entry
 plain kind payer bytes = record { kind = kind; payer = payer; charge = bytes; account = account.blank }
 
 -- a budget carved from `parent`, whose renewed account is a
 abbrev pub carved : (parent cpu memory : ℕ) → Account → Entry
-carved parent cpu memory a = record { kind = budget_kind; payer = parent; charge = bytes_of budget_kind; account = account.fresh cpu memory a.period_start }
+carved parent cpu memory a = record { kind = Budget; payer = parent; charge = bytes_of Budget; account = account.fresh cpu memory a.period_start }
 
--- "the payer must cover the bytes, then the kind must be 2, 3, 4, 5 or 7, then, for 2 and 3, the backing must be there"
-abbrev pub create : (kind payer : ℕ) (backing : Bool) → Registry → RegistryReply
-create kind payer backing r = on r do
-  ask refused.code (listed kind)
+-- A call takes a kind by its code. "the payer must cover the bytes, then the kind must be 2, 3, 4, 5 or 7, then, for 2 and 3, the backing must be there"
+abbrev pub create : (n payer : ℕ) (backing : Bool) → Registry → RegistryReply
+create n payer backing r = on r do
+  ask refused.code (listed n)
   ask refused.full (has_place r)
   ask refused.full (has_next r)
   ask refused.missing (is_budget r payer)
-  ask refused.limit (leb (bytes_of kind) (account.free (account_of r payer)))
-  ask refused.kind (creatable kind)
-  ask refused.backing (not (needs_backing kind) || backing)
-  finish (some (id r.next)) (add (plain kind payer (bytes_of kind)) (budget payer (λ a. account.charge a (bytes_of kind)) r))
+  ask refused.limit (leb (bytes_of (kind_of n)) (account.free (account_of r payer)))
+  ask refused.kind (creatable (kind_of n))
+  ask refused.backing (not (needs_backing (kind_of n)) || backing)
+  finish (Some (id r.next)) (add (plain (kind_of n) payer (bytes_of (kind_of n))) (budget payer (λ a. account.charge a (bytes_of (kind_of n))) r))
 
 -- "`insert` takes any byte count"; "an inserted kind not 6"
-abbrev pub insert : (kind payer bytes : ℕ) → Registry → RegistryReply
-insert kind payer bytes r = on r do
-  ask refused.code (listed kind)
-  ask refused.code (not (eqb kind budget_kind))
+abbrev pub insert : (n payer bytes : ℕ) → Registry → RegistryReply
+insert n payer bytes r = on r do
+  ask refused.code (listed n)
+  ask refused.code (not (is_budget_kind (kind_of n)))
   ask refused.full (has_place r)
   ask refused.full (has_next r)
   ask refused.missing (is_budget r payer)
   ask refused.limit (leb bytes (account.free (account_of r payer)))
-  finish (some (id r.next)) (add (plain kind payer bytes) (budget payer (λ a. account.charge a bytes) r))
+  finish (Some (id r.next)) (add (plain (kind_of n) payer bytes) (budget payer (λ a. account.charge a bytes) r))
 
 -- "`create_budget` charges 128 to the parent, then carves; a refusal credits the 128": past the 128 bytes, a refusal leaves the renewal
 abbrev pub create_budget : (parent cpu memory time : ℕ) → Registry → RegistryReply
@@ -154,26 +137,26 @@ create_budget parent cpu memory time r = on r do
   ask refused.full (has_place r)
   ask refused.full (has_next r)
   ask refused.missing (is_budget r parent)
-  ask refused.limit (leb (bytes_of budget_kind) (account.free (account_of r parent)))
+  ask refused.limit (leb (bytes_of Budget) (account.free (account_of r parent)))
   from (budget parent (λ a. account.renew a time) r) do
     ask refused.limit (leb cpu (account.renew (account_of r parent) time).cpu_left)
-    ask refused.limit (leb memory (account.free (account.charge (account_of r parent) (bytes_of budget_kind))))
-    finish (some (id r.next)) (add (carved parent cpu memory (account.renew (account_of r parent) time))
-        (budget parent (λ a. account.reserve (account.charge (account.renew a time) (bytes_of budget_kind)) cpu memory) r))
+    ask refused.limit (leb memory (account.free (account.charge (account_of r parent) (bytes_of Budget))))
+    finish (Some (id r.next)) (add (carved parent cpu memory (account.renew (account_of r parent) time))
+        (budget parent (λ a. account.reserve (account.charge (account.renew a time) (bytes_of Budget)) cpu memory) r))
 
 -- "`charge_more` raises entry and payer"
 abbrev pub charge_more : (i bytes : ℕ) → Registry → RegistryReply
 charge_more i bytes r = on r do
   ask refused.missing (has r i)
   ask refused.limit (leb bytes (account.free (account_of r (payer_of r i))))
-  finish none (object i (λ c. c + bytes) (budget (payer_of r i) (λ a. account.charge a bytes) r))
+  finish None (object i (λ c. c + bytes) (budget (payer_of r i) (λ a. account.charge a bytes) r))
 
 -- "`uncharge` lowers both"
 abbrev pub uncharge : (i bytes : ℕ) → Registry → RegistryReply
 uncharge i bytes r = on r do
   ask refused.missing (has r i)
   ask refused.charge (leb bytes (entry r i).charge)
-  finish none (object i (λ c. c - bytes) (budget (payer_of r i) (λ a. account.credit a bytes) r))
+  finish None (object i (λ c. c - bytes) (budget (payer_of r i) (λ a. account.credit a bytes) r))
 
 -- an account, renewed at this time where the test holds
 abbrev pub renew_if : Bool → (time : ℕ) → Account → Account
@@ -187,13 +170,13 @@ remove i time r = on r do
   ask refused.missing (has r i)
   ask refused.root (not (eqb i 1))
   ask refused.pays (not (is_budget r i && pays_for r i))
-  finish none (budget (payer_of r i) (λ a. account.credit (account.return (renew_if (is_budget r i) time a) (account_of r i)) (entry r i).charge) (drop i r))
+  finish None (budget (payer_of r i) (λ a. account.credit (account.return (renew_if (is_budget r i) time a) (account_of r i)) (entry r i).charge) (drop i r))
 
 -- a renewal of one budget
 abbrev pub refill : (i time : ℕ) → Registry → RegistryReply
 refill i time r = on r do
   ask refused.missing (is_budget r i)
-  finish (some (renewed (account.due (account_of r i) time))) (budget i (λ a. account.renew a time) r)
+  finish (Some (renewed (account.due (account_of r i) time))) (budget i (λ a. account.renew a time) r)
 
 -- a CPU charge to one budget: "refused with 12, a CPU charge renews"
 abbrev pub charge_cpu : (i ns time : ℕ) → Registry → RegistryReply
@@ -201,7 +184,7 @@ charge_cpu i ns time r = on r do
   ask refused.missing (is_budget r i)
   from (budget i (λ a. account.renew a time) r) do
     ask refused.limit (leb ns (account.renew (account_of r i) time).cpu_left)
-    finish none (budget i (λ a. account.spend (account.renew a time) ns) r)
+    finish None (budget i (λ a. account.spend (account.renew a time) ns) r)
 
 -- What the scheduler asks. Is i a live budget with CPU left?
 abbrev pub has_cpu : Registry → ℕ → Bool
@@ -214,14 +197,14 @@ charge_most i ns time r = cond (is_budget r i) (budget i (λ a. account.spend (a
 -- Readings. "For a missing id `pays_for_anything` says no."
 
 abbrev pub pays_for_anything : (i : ℕ) → Registry → RegistryReply
-pays_for_anything i r = accept (some (pays (pays_for r i))) r
+pays_for_anything i r = accept (Some (pays (pays_for r i))) r
 
 abbrev pub read_account : (i : ℕ) → Registry → RegistryReply
 read_account i r = on r do
   ask refused.missing (is_budget r i)
-  finish (some (of_account (account_of r i))) r
+  finish (Some (of_account (account_of r i))) r
 
 abbrev pub charge_of : (i : ℕ) → Registry → RegistryReply
 charge_of i r = on r do
   ask refused.missing (has r i)
-  finish (some (charge (payer_of r i) (entry r i).charge)) r
+  finish (Some (charge (payer_of r i) (entry r i).charge)) r

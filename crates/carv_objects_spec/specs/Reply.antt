@@ -1,6 +1,5 @@
 -- What a call answers and leaves, and the questions before it. Assumes nothing.
-use Rattle.std.specs.Prelude.{Bool, cond, ℕ}
-use Rattle.std.proofs.Math.Option.{Option, none}
+use Rattle.std.specs.Prelude.{Bool, cond, ℕ, Option, None}
 use Rattle.carv_budget.specs.declared.Account.{Account}
 use Rattle.carv_objects_spec.specs.declared.Totals.{Totals}
 
@@ -12,14 +11,14 @@ pub record Reply (A S : Type 0) : Type 0 where
 
 module _ {A S : Type 0} where
   abbrev pub refuse : ℕ → S → Reply A S
-  refuse n s = record { number = n; value = none; after = s }
+  refuse n s = record { number = n; value = None; after = s }
 
   abbrev pub accept : Option A → S → Reply A S
   accept v s = record { number = 0; value = v; after = s }
 
   -- a reply without its answer: the state alone
   abbrev pub without_answer : Reply A S → Reply A S
-  without_answer z = accept none z.after
+  without_answer z = accept None z.after
 
 pub record Question : Type 0 where
   pub number : ℕ

@@ -1,10 +1,13 @@
--- Document 01's soundness, for objects: a test that computes. proofs/Laws/SoundFacts.antt has the same as a record of facts. Assumes nothing.
+-- Document 01's soundness, for objects: a test that computes. "Every code is a listed one" is said of the stored words, in carv_objects/specs/Area.antt: an entry has a
+-- kind. proofs/Laws/SoundFacts.antt has the same as a record of facts. Assumes nothing.
 use Rattle.std.specs.Prelude.{Bool, true, cond, not, ◌&&◌, ◌||◌, List, [], ◌∷◌, ℕ, suc, eqb, ltb, leb, length}
 use Rattle.carv_area.specs.Table.{Row, at, total}
 use Rattle.carv_budget.specs.declared.Account.{Account}
 use Rattle.carv_budget.specs.Account as account
+use Rattle.carv_objects_spec.specs.declared.kind.Kind.{Kind}
 use Rattle.carv_objects_spec.specs.declared.Entry.{Entry}
-use Rattle.carv_objects_spec.specs.Registry.{Registry, or_missing, budget_kind, listed, most_objects}
+use Rattle.carv_objects_spec.specs.Kinds.{is_budget_kind}
+use Rattle.carv_objects_spec.specs.Registry.{Registry, or_missing, most_objects}
 
 -- every test of a list holds
 abbrev pub all : List Bool → Bool
@@ -23,7 +26,7 @@ module _ {A : Type 0} where
   rises l n (r ∷ m) = leb l r.id && rises (suc r.id) n m
 
 -- the kind of what stands under i
-abbrev pub kind_at : List (Row Entry) → ℕ → ℕ
+abbrev pub kind_at : List (Row Entry) → ℕ → Kind
 kind_at m i = (or_missing (at m i)).kind
 
 -- Of entry i, e: the bytes that p pays for it, and the memory and CPU time that p reserves for it. "The root not being its own child".
@@ -49,12 +52,11 @@ is_blank a = all (
 -- what is asked of entry i, e, of the rows m
 abbrev pub entry_tests : List (Row Entry) → ℕ → Entry → List Bool
 entry_tests m i e =
-    -- "every code is a listed one"; what is no budget has no account
-    listed e.kind
-    ∷ (eqb e.kind budget_kind || is_blank e.account)
+    -- what is no budget has no account
+    (is_budget_kind e.kind || is_blank e.account)
     -- "entry 1 is a budget paying for itself; other payers are live budgets of lower id"
-    ∷ cond (eqb i 1) (eqb e.kind budget_kind && eqb e.payer 1) (ltb e.payer i)
-    ∷ eqb (kind_at m e.payer) budget_kind
+    ∷ cond (eqb i 1) (is_budget_kind e.kind && eqb e.payer 1) (ltb e.payer i)
+    ∷ is_budget_kind (kind_at m e.payer)
     -- "used equals the charges it pays; reservations equal its live children's limits"
     ∷ eqb e.account.memory_used (total (charge_by i) m)
     ∷ eqb e.account.memory_reserved (total (memory_by i) m)
@@ -67,7 +69,7 @@ abbrev pub registry_tests : Registry → List Bool
 registry_tests r =
     leb (length r.rows) most_objects
     ∷ rises 1 r.next r.rows
-    ∷ eqb (kind_at r.rows 1) budget_kind
+    ∷ is_budget_kind (kind_at r.rows 1)
     ∷ every (λ i e. all (entry_tests r.rows i e)) r.rows ∷ []
 
 abbrev pub sound : Registry → Bool

@@ -22,9 +22,9 @@ fn word_at(i: usize) -> u64
 
 // Writes the eight bytes of step k of 64, from 1, as the word that they are, and no other. Compiled alone it is one 64-bit store.
 fn write_eight(image: &mut [u8], k: usize, word: u64)
-    requires image_len { length image.old ≡ 512 }
-    requires le_k { (1 ≤ k) × (k ≤ 64) }
-    requires word_value { word ≡ get_or (words register_image) (k - 1) 0 }
+    requires image_bytes { length image.old ≡ 512 }
+    requires is_step { (1 ≤ k) × (k ≤ 64) }
+    requires is_word { word ≡ get_or (words register_image) (k - 1) 0 }
     ensures { image.new ≡ eight_written k image.old }
 {
     carv_area::put(image, k - 1, word);
@@ -32,9 +32,9 @@ fn write_eight(image: &mut [u8], k: usize, word: u64)
 
 // Step k of 64, from 1, where the bytes before its own are final.
 fn step(image: &mut [u8], k: usize)
-    requires image_len { length image.old ≡ 512 }
-    requires le_k { (1 ≤ k) × (k ≤ 64) }
-    requires fact { Final (k - 1) image.old }
+    requires image_bytes { length image.old ≡ 512 }
+    requires is_step { (1 ≤ k) × (k ≤ 64) }
+    requires final_before { Final (k - 1) image.old }
     ensures { image.new ≡ after_step k image.old }
 {
     write_eight(image, k, word_at(k - 1));
@@ -42,13 +42,11 @@ fn step(image: &mut [u8], k: usize)
 
 // Steps 1 to n of 64.
 fn steps(image: &mut [u8], n: usize)
-    requires image_len { length image.old ≡ 512 }
-    requires n_bound { n ≤ 64 }
+    requires image_bytes { length image.old ≡ 512 }
+    requires at_most_all { n ≤ 64 }
     ensures { image.new ≡ after_step n image.old }
 {
-    let mut k = 0;
-    while k < n {
-        k += 1;
+    for k in 1..=n {
         step(image, k);
     }
 }

@@ -1,6 +1,6 @@
 -- The board in its lent area of 68,144 bytes, as 64-bit words, the least byte first: the registry's area, the current thread and the switch count, the threads, the
 -- ready queue, the exit log. What the bytes say, and question 1 of them. docs/LAYOUT.md has the same as a table. Assumes nothing.
-use Rattle.std.specs.Prelude.{◌≡◌, ℕ, ◌+◌, ◌*◌, Bool, true, false, ◌&&◌, List, [], ◌∷◌, length, drop, ◌==◌, nat_eq, nat_le, slice_index}
+use Rattle.std.specs.Prelude.{◌≡◌, ℕ, ◌+◌, ◌*◌, Bool, true, false, ◌&&◌, List, [], ◌∷◌, length, drop, ◌==◌, nat_eq, nat_le, slice_index, Option, option_map, Result, Ok, Err}
 use Rattle.carv_area.specs.Table.{Row}
 use Rattle.carv_area.specs.Lists.{tab}
 use Rattle.carv_area.specs.Words.{words}
@@ -10,17 +10,19 @@ use Rattle.carv_area.specs.Zero.{all_zero}
 use Rattle.carv_budget.specs.Account.{period}
 use Rattle.carv_objects.specs.Area as objects
 use Rattle.carv_scheduler_spec.specs.declared.Wait.{Wait}
-use Rattle.carv_scheduler_spec.specs.declared.BudgetId.{BudgetId}
+use Rattle.carv_scheduler_spec.specs.declared.State.{State}
 use Rattle.carv_scheduler_spec.specs.declared.Spaces.{Spaces}
 use Rattle.carv_scheduler_spec.specs.declared.Context.{Context}
 use Rattle.carv_scheduler_spec.specs.declared.Results.{Results}
 use Rattle.carv_scheduler_spec.specs.declared.Thread.{Thread}
 use Rattle.carv_scheduler_spec.specs.declared.Exit.{Exit}
-use Rattle.carv_scheduler.specs.declared.Answer.{Answer}
-use Rattle.carv_scheduler.specs.declared.Answer.TheVariants.{Done, Refused}
-use Rattle.carv_scheduler.specs.Answer.{number, value}
-use Rattle.carv_scheduler_spec.specs.Scheduler.{Board, BoardReply, opening}
-use Rattle.carv_scheduler_spec.specs.Sound.{sound}
+use Rattle.carv_objects.specs.declared.refusal.Refusal.{Refusal}
+use Rattle.carv_objects.specs.declared.refusal.Refusal.TheVariants.{Unsound, Share}
+use Rattle.carv_objects.specs.Answer.{number}
+use Rattle.carv_scheduler.specs.Answer.{value}
+use Rattle.carv_scheduler_spec.specs.Scheduler.{Board, BoardReply, Value, opening, wait, cause_of}
+use Rattle.carv_scheduler_spec.specs.Sound.{sound, each}
+use Rattle.carv_scheduler_spec.specs.Codes.{is_word, state_word, kind_word, number_word, id_word, space_word, cspace_word, root_word, cause_word, state_from, budget_from, spaces_from, state_listed, budget_listed, spaces_listed, exit_listed}
 
 -- The parts.
 
@@ -39,16 +41,22 @@ queue_part a = part 66_600 1_024 a
 unfoldable pub exits_part : List ℕ → List ℕ
 exits_part a = part 67_624 520 a
 
--- The words of a thread record: its id and 20 more.
+-- The words of a thread record: its id and 20 more. carv_scheduler_spec/specs/Codes.antt has the words of a state, a budget, a space and a cause.
 
 abbrev pub wait_at : List ℕ → ℕ → Wait
-wait_at l o = record { kind = slice_index l o; number = slice_index l (o + 1) }
+wait_at l o = wait (slice_index l o) (slice_index l (o + 1))
 
-abbrev pub budget_id_at : List ℕ → ℕ → BudgetId
-budget_id_at l o = record { is = slice_index l o; id = slice_index l (o + 1) }
+abbrev pub state_at : List ℕ → ℕ → State
+state_at l o = state_from (slice_index l o) (slice_index l (o + 1)) (slice_index l (o + 2))
 
-abbrev pub spaces_at : List ℕ → ℕ → Spaces
-spaces_at l o = record { is = slice_index l o; space = slice_index l (o + 1); cspace = slice_index l (o + 2); root = slice_index l (o + 3) }
+abbrev pub budget_at : List ℕ → ℕ → Option ℕ
+budget_at l o = budget_from (slice_index l o) (slice_index l (o + 1))
+
+abbrev pub spaces_at : List ℕ → ℕ → Option Spaces
+spaces_at l o = spaces_from (slice_index l o) (slice_index l (o + 1)) (slice_index l (o + 2)) (slice_index l (o + 3))
+
+abbrev pub root_at : List ℕ → ℕ → Option ℕ
+root_at l o = option_map (λ (s : Spaces). s.root) (spaces_at l o)
 
 abbrev pub context_at : List ℕ → ℕ → Context
 context_at l o = record {
@@ -68,9 +76,8 @@ abbrev pub thread_at : List ℕ → ℕ → Row Thread
 thread_at l i = record {
   id = slice_index l (i * 21 + 1);
   it = record {
-    state = slice_index l (i * 21 + 2);
-    wait = wait_at l (i * 21 + 3);
-    budget = budget_id_at l (i * 21 + 5);
+    state = state_at l (i * 21 + 2);
+    budget = budget_at l (i * 21 + 5);
     spaces = spaces_at l (i * 21 + 7);
     context = context_at l (i * 21 + 11);
     results = results_at l (i * 21 + 18);
@@ -80,16 +87,39 @@ thread_at l i = record {
 
 abbrev pub thread_fields : Row Thread → List ℕ
 thread_fields r =
-    r.id ∷ r.it.state ∷ r.it.wait.kind ∷ r.it.wait.number ∷ r.it.budget.is ∷ r.it.budget.id
-    ∷ r.it.spaces.is ∷ r.it.spaces.space ∷ r.it.spaces.cspace ∷ r.it.spaces.root
+    r.id ∷ state_word r.it.state ∷ kind_word r.it.state ∷ number_word r.it.state ∷ is_word r.it.budget ∷ id_word r.it.budget
+    ∷ is_word r.it.spaces ∷ space_word r.it.spaces ∷ cspace_word r.it.spaces ∷ root_word r.it.spaces
     ∷ r.it.context.rip ∷ r.it.context.rsp ∷ r.it.context.rflags ∷ r.it.context.rdi ∷ r.it.context.rsi ∷ r.it.context.cs ∷ r.it.context.ss
     ∷ r.it.results.first ∷ r.it.results.second ∷ r.it.results.third ∷ r.it.ticks ∷ []
 
 abbrev pub exit_at : List ℕ → ℕ → Exit
-exit_at l i = record { thread = slice_index l (i * 2 + 1); cause = slice_index l (i * 2 + 2) }
+exit_at l i = record { thread = slice_index l (i * 2 + 1); cause = cause_of (slice_index l (i * 2 + 2)) }
 
 abbrev pub exit_fields : Exit → List ℕ
-exit_fields e = e.thread ∷ e.cause ∷ []
+exit_fields e = e.thread ∷ cause_word e.cause ∷ []
+
+-- "Every code is a listed one": those of the thread and of the exit at place i, and of all of them.
+
+abbrev pub state_listed_at : List ℕ → ℕ → Bool
+state_listed_at l o = state_listed (slice_index l o) (slice_index l (o + 1)) (slice_index l (o + 2))
+
+abbrev pub budget_listed_at : List ℕ → ℕ → Bool
+budget_listed_at l o = budget_listed (slice_index l o) (slice_index l (o + 1))
+
+abbrev pub spaces_listed_at : List ℕ → ℕ → Bool
+spaces_listed_at l o = spaces_listed (slice_index l o) (slice_index l (o + 1)) (slice_index l (o + 2)) (slice_index l (o + 3))
+
+abbrev pub thread_listed : List ℕ → ℕ → Bool
+thread_listed l i = state_listed_at l (i * 21 + 2) && (budget_listed_at l (i * 21 + 5) && spaces_listed_at l (i * 21 + 7))
+
+abbrev pub cause_listed_at : List ℕ → ℕ → Bool
+cause_listed_at l i = exit_listed (slice_index l (i * 2 + 2))
+
+unfoldable pub threads_listed : List ℕ → Bool
+threads_listed l = each (thread_listed l) (tab (slice_index l 0) (λ i. i))
+
+unfoldable pub exits_listed : List ℕ → Bool
+exits_listed l = each (cause_listed_at l) (tab (slice_index l 0) (λ i. i))
 
 -- The tables of the parts' words, each with its number of rows in front.
 
@@ -120,29 +150,30 @@ unfoldable pub sound_area : List ℕ → Bool
 sound_area a =
     (length a == 68_144)
     && (objects.sound_area (registry_part a)
+    && (threads_listed (words (threads_part a)) && (exits_listed (words (exits_part a))
     && (sound (decode a)
     && (all_zero (behind 21 (words (threads_part a)))
     && (nat_le (slice_index (words (queue_part a)) 0) 127 && (all_zero (behind 1 (words (queue_part a)))
-    && all_zero (behind 2 (words (exits_part a))))))))
+    && all_zero (behind 2 (words (exits_part a))))))))))
 
 -- the bytes a are those of the sound board s
 pub record Is (a : List ℕ) (s : Board) : Type 0 where
   pub sound : sound_area a ≡ true
   pub same : decode a ≡ s
 
--- What a call answers, r, and what it leaves, a', of a sound area a.
-pub record Serves (call : Board → BoardReply) (a : List ℕ) (r : Answer) (a' : List ℕ) : Type 0 where
+-- What a call answers, r, whose value is what `tells` says, and what it leaves, a', of a sound area a.
+pub record Serves {T : Type 0} (call : Board → BoardReply) (tells : T → Option Value) (a : List ℕ) (r : Result T Refusal) (a' : List ℕ) : Type 0 where
   pub number : number r ≡ (call (decode a)).number
-  pub value : value r ≡ (call (decode a)).value
+  pub value : value tells r ≡ (call (decode a)).value
   pub area : Is a' (call (decode a)).after
 
 -- The same of any area: one that is not sound is refused with 1 and left as it came.
-pub record Answered (call : Board → BoardReply) (a : List ℕ) (r : Answer) (a' : List ℕ) : Type 0 where
-  pub refused : sound_area a ≡ false → (r ≡ Refused 1) × (a' ≡ a)
-  pub served : sound_area a ≡ true → Serves call a r a'
+pub record Answered {T : Type 0} (call : Board → BoardReply) (tells : T → Option Value) (a : List ℕ) (r : Result T Refusal) (a' : List ℕ) : Type 0 where
+  pub refused : sound_area a ≡ false → (r ≡ Err Unsound) × (a' ≡ a)
+  pub served : sound_area a ≡ true → Serves call tells a r a'
 
 -- An opening: questions 1, of the length alone, and 2, "is the CPU share at most 10,000,000?"
-pub record Opened (cpu memory : ℕ) (a : List ℕ) (r : Answer) (a' : List ℕ) : Type 0 where
-  pub size : nat_eq (length a) 68_144 ≡ false → (r ≡ Refused 1) × (a' ≡ a)
-  pub share : nat_eq (length a) 68_144 ≡ true → nat_le cpu period ≡ false → (r ≡ Refused 2) × (a' ≡ a)
-  pub opened : nat_eq (length a) 68_144 ≡ true → nat_le cpu period ≡ true → (r ≡ Done) × Is a' (opening cpu memory)
+pub record Opened (cpu memory : ℕ) (a : List ℕ) (r : Result (Unit {0}) Refusal) (a' : List ℕ) : Type 0 where
+  pub size : nat_eq (length a) 68_144 ≡ false → (r ≡ Err Unsound) × (a' ≡ a)
+  pub share : nat_eq (length a) 68_144 ≡ true → nat_le cpu period ≡ false → (r ≡ Err Share) × (a' ≡ a)
+  pub opened : nat_eq (length a) 68_144 ≡ true → nat_le cpu period ≡ true → (r ≡ Ok tt) × Is a' (opening cpu memory)

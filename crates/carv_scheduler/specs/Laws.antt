@@ -1,6 +1,7 @@
 -- What serves the proofs: definitions that inner contracts cite, and laws. Nothing here need be believed: what is said with it is used up in the proofs of the entry
 -- points. AreaExact has a theorem for readers: there is one way to write a board.
 pub mod Rows
+pub mod Listed
 pub mod Formed
 pub mod AreaSteps
 pub mod Room
@@ -29,4 +30,3 @@ pub mod SoundQueue
 pub mod SoundLog
 pub mod SoundBridge
 pub mod Creation
-pub mod ExitSearch

@@ -3,16 +3,16 @@ ghost use Rattle.std.specs.Prelude.{◌≡◌, ◌<◌, [], ◌∷◌, ◌++◌,
 ghost use Rattle.carv_area.specs.Table.{put};
 ghost use Rattle.carv_area.specs.Rows.{remove_at};
 ghost use Rattle.carv_area.specs.Lookup.{Located};
-ghost use Rattle.carv_scheduler_spec.specs.Scheduler.{woken, ticked};
-ghost use Rattle.carv_scheduler.specs.Area.{thread_fields, decode};
+ghost use Rattle.carv_scheduler_spec.specs.Scheduler.{root_of, woken, ticked};
+ghost use Rattle.carv_scheduler.specs.Area.{decode};
 ghost use Rattle.carv_scheduler.specs.Laws.Rows.{row, no_row};
 ghost use Rattle.carv_scheduler.specs.Laws.Formed.{WellFormed, Leaves};
 ghost use Rattle.carv_scheduler.specs.Laws.RowWords.{with_state};
 ghost use Rattle.carv_scheduler.specs.Laws.AreaSteps.{with_head, with_threads, with_queue, Placed, New};
 
-use crate::rows;
-use carv_area::Found;
-use carv_scheduler_spec::{Results, Thread, Wait};
+use crate::rows::{self, ROW};
+use carv_area::Table;
+use carv_scheduler_spec::{Results, State, Thread};
 
 // Where the parts start, behind the registry, and where the last one ends.
 pub const HEAD: usize = carv_objects::BYTES;
@@ -29,21 +29,6 @@ pub const BYTES: usize = 68_144;
 pub const PLACES: usize = 128;
 
 pub const QUEUE_PLACES: usize = PLACES - 1;
-
-// The words of a record that are read one by one, from its id on.
-pub const STATE: usize = rows::STATE - rows::ID;
-
-pub const WAIT: usize = rows::WAIT - rows::ID;
-
-pub const WAIT_NUMBER: usize = rows::WAIT_NUMBER - rows::ID;
-
-pub const BUDGET: usize = rows::BUDGET - rows::ID;
-
-pub const BUDGET_ID: usize = rows::BUDGET_ID - rows::ID;
-
-pub const SPACE: usize = rows::SPACES - rows::ID;
-
-pub const ROOT: usize = rows::ROOT - rows::ID;
 
 // The current thread.
 pub fn current(a: &[u8]) -> u64
@@ -78,19 +63,21 @@ pub fn thread_count(a: &[u8]) -> usize
 }
 
 // The place of the thread with this id.
-pub fn find_thread(a: &[u8], id: u64) -> Found
+pub fn find_thread(a: &[u8], id: u64) -> Option<usize>
     requires { WellFormed a.now }
     ensures { Located no_row (decode a.now).threads id result }
 {
-    carv_area::find(&a[THREADS..QUEUE], rows::ROW, id)
+    let bytes = &a[THREADS..QUEUE];
+    Table::<ROW> { bytes }.find(id)
 }
 
 // The same, where the place guess is tried first.
-pub fn find_thread_near(a: &[u8], id: u64, guess: usize) -> Found
+pub fn find_thread_near(a: &[u8], id: u64, guess: usize) -> Option<usize>
     requires { WellFormed a.now }
     ensures { Located no_row (decode a.now).threads id result }
 {
-    carv_area::find_near(&a[THREADS..QUEUE], rows::ROW, id, guess)
+    let bytes = &a[THREADS..QUEUE];
+    Table::<ROW> { bytes }.find_near(id, guess)
 }
 
 // The id of the thread at place i.
@@ -120,25 +107,43 @@ pub fn set_thread(a: &mut [u8], i: usize, id: u64, t: Thread)
     rows::write_thread(&mut a[THREADS..QUEUE], i, id, t)
 }
 
-// Word c of the record of the thread at place i, from its id on.
-pub fn thread_word(a: &[u8], i: usize, c: usize) -> u64
+// Its state.
+pub fn state_at(a: &[u8], i: usize) -> State
     requires well_formed { WellFormed a.now }
-    requires i_in_bounds { (i < length (decode a.now).threads) × (c < 21) }
-    ensures { result ≡ slice_index (thread_fields (slice_index_or (decode a.now).threads i no_row)) c }
+    requires i_in_bounds { i < length (decode a.now).threads }
+    ensures { result ≡ (get_or (decode a.now).threads i no_row).it.state }
 {
-    carv_area::get(&a[THREADS..QUEUE], i * rows::ROW + rows::ID + c)
+    rows::read_state(&a[THREADS..QUEUE], i * ROW + rows::STATE)
 }
 
-// The thread at place i has this state and wait.
-pub fn set_state(a: &mut [u8], i: usize, state: u64, wait: Wait)
+// Its budget.
+pub fn budget_at(a: &[u8], i: usize) -> Option<u64>
+    requires well_formed { WellFormed a.now }
+    requires i_in_bounds { i < length (decode a.now).threads }
+    ensures { result ≡ (get_or (decode a.now).threads i no_row).it.budget }
+{
+    rows::read_budget(&a[THREADS..QUEUE], i * ROW + rows::BUDGET)
+}
+
+// The root of its page table.
+pub fn root_at(a: &[u8], i: usize) -> Option<u64>
+    requires well_formed { WellFormed a.now }
+    requires i_in_bounds { i < length (decode a.now).threads }
+    ensures { result ≡ root_of (get_or (decode a.now).threads i no_row).it }
+{
+    rows::read_root(&a[THREADS..QUEUE], i * ROW + rows::SPACES)
+}
+
+// The thread at place i has this state.
+pub fn set_state(a: &mut [u8], i: usize, state: State)
     requires well_formed { WellFormed a.old }
     requires i_in_bounds { i < length (decode a.old).threads }
-    ensures { Leaves a.new (with_threads (slice_set (decode a.old).threads i (with_state state wait (slice_index_or (decode a.old).threads i no_row))) (decode a.old)) }
+    ensures { Leaves a.new (with_threads (slice_set (decode a.old).threads i (with_state state (slice_index_or (decode a.old).threads i no_row))) (decode a.old)) }
 {
-    rows::write_state(&mut a[THREADS..QUEUE], i, state, wait)
+    rows::write_state(&mut a[THREADS..QUEUE], i, state)
 }
 
-// The thread at place i is Ready, waits for nothing and has these results.
+// The thread at place i is Ready and has these results.
 pub fn set_woken(a: &mut [u8], i: usize, results: Results)
     requires well_formed { WellFormed a.old }
     requires i_in_bounds { i < length (decode a.old).threads }
@@ -156,12 +161,14 @@ pub fn add_tick(a: &mut [u8], i: usize)
     rows::write_ticked(&mut a[THREADS..QUEUE], i)
 }
 
-// How many threads have a lower id.
+// How many threads have a lower id. Not inlined: what calls it then keeps its locals above the stack pointer.
+#[inline(never)]
 fn thread_rank(a: &[u8], id: u64) -> usize
     requires { WellFormed a.now }
     ensures { Placed (decode a.now).threads id result }
 {
-    carv_area::rank(&a[THREADS..QUEUE], rows::ROW, id)
+    let bytes = &a[THREADS..QUEUE];
+    Table::<ROW> { bytes }.rank(id)
 }
 
 // A new thread at place i, which is its place by its id.

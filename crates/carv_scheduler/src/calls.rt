@@ -1,68 +1,41 @@
 // The calls on a sound area: document 01's questions in their order, then the step. lib.rt asks question 1 in front of each.
-ghost use Rattle.std.specs.Prelude.{◌≡◌, ◌<◌, true, ◌&&◌, length, ◌==◌, slice_index_or};
+ghost use Rattle.std.specs.Prelude.{◌≡◌, ◌<◌, true, length};
 ghost use Rattle.carv_area.specs.Table.{alter};
 ghost use Rattle.carv_area.specs.Lookup.{Here};
-ghost use Rattle.carv_scheduler_spec.specs.Scheduler.{wait_listed, join, with_threads, is, blocked, has, create_user_thread, start, block_current, is_blocked_on, read_thread, read_current, read_switches};
+ghost use Rattle.carv_scheduler_spec.specs.Scheduler.{join, with_threads, has, create_user_thread, start, block_current, is_blocked_on, read_thread, read_current, read_switches};
 ghost use Rattle.carv_scheduler.specs.Area.{decode, sound_area, Serves};
-ghost use Rattle.carv_scheduler.specs.Creating.{Plain};
+ghost use Rattle.carv_scheduler.specs.Answer.{nothing, blocked_of, thread_of, word_of};
 ghost use Rattle.carv_scheduler.specs.Laws.Rows.{no_row};
 ghost use Rattle.carv_scheduler.specs.Laws.Formed.{WellFormed, Leaves};
 
-use crate::numbers::{BLOCKED, FIRST, IDLE, INACTIVE, READY, RUNNING, SEND, SLEEP};
-use crate::{Answer, area, rows};
-use carv_area::Found;
-use carv_objects::refused;
-use carv_scheduler_spec::{BudgetId, Context, Spaces, Thread, Wait};
-
-// Is the kind one of the five that a thread can wait for?
-pub fn is_wait_listed(kind: u64) -> bool
-    ensures { result ≡ wait_listed kind }
-{
-    if kind < SEND {
-        return false;
-    }
-    if kind > SLEEP {
-        return false;
-    }
-    true
-}
+use crate::numbers::{FIRST, IDLE};
+use crate::{area, rows};
+use carv_objects::Refusal;
+use carv_scheduler_spec::{Context, Spaces, State, Thread, Wait};
 
 // Is there a thread with this id?
 fn has_thread(a: &[u8], id: u64) -> bool
     requires { WellFormed a.now }
     ensures { result ≡ has (decode a.now).threads id }
 {
-    match area::find_thread(a, id) {
-        Found::At(_) => true,
-        Found::Nothing => false,
-    }
+    area::find_thread(a, id).is_some()
 }
 
-pub fn create_user_thread(a: &mut [u8], id: u64, budget: u64, stack: bool) -> Answer
+pub fn create_user_thread(a: &mut [u8], id: u64, budget: u64, stack: bool) -> Result<(), Refusal>
     requires { sound_area a.old ≡ true }
-    ensures { Serves (create_user_thread id budget stack) a.old result a.new × Plain result }
+    ensures { Serves (create_user_thread id budget stack) nothing a.old result a.new }
 {
-    if has_thread(a, id) {
-        return Answer::Refused(refused::ID);
-    }
-    if id == FIRST {
-        return Answer::Refused(refused::ID);
-    }
-    if id == IDLE {
-        return Answer::Refused(refused::ID);
+    if has_thread(a, id) || id == FIRST || id == IDLE {
+        return Err(Refusal::Id);
     }
     if area::thread_count(a) >= area::PLACES {
-        return Answer::Refused(refused::FULL);
+        return Err(Refusal::Full);
     }
     if !stack {
-        return Answer::Refused(refused::BACKING);
+        return Err(Refusal::Backing);
     }
-    area::insert_thread(
-        a,
-        id,
-        rows::fresh_thread(INACTIVE, BudgetId { is: 1, id: budget }),
-    );
-    Answer::Done
+    area::insert_thread(a, id, rows::fresh_thread(State::Inactive, Some(budget)));
+    Ok(())
 }
 
 // The thread id, which stands at place i, gets this record and joins the queue's end.
@@ -76,39 +49,38 @@ pub fn store_and_join(a: &mut [u8], i: usize, id: u64, t: Thread)
     area::queue_push(a, id);
 }
 
-pub fn start(a: &mut [u8], id: u64, space: u64, cspace: u64, root: u64, context: Context) -> Answer
+pub fn start(
+    a: &mut [u8],
+    id: u64,
+    space: u64,
+    cspace: u64,
+    root: u64,
+    context: Context,
+) -> Result<(), Refusal>
     requires { sound_area a.old ≡ true }
-    ensures { Serves (start id space cspace root context) a.old result a.new }
+    ensures { Serves (start id space cspace root context) nothing a.old result a.new }
 {
-    let Found::At(i) = area::find_thread(a, id) else {
-        return Answer::Refused(refused::MISSING);
-    };
+    let i = area::find_thread(a, id).ok_or(Refusal::Missing)?;
     let t = area::thread_at(a, i);
-    if t.state != INACTIVE {
-        return Answer::Refused(refused::STATE);
+    if t.state != State::Inactive {
+        return Err(Refusal::State);
     }
-    let budget = t.budget;
-    let results = t.results;
     store_and_join(
         a,
         i,
         id,
         Thread {
-            state: READY,
-            wait: rows::NO_WAIT,
-            budget,
-            spaces: Spaces {
-                is: 1,
+            state: State::Ready,
+            spaces: Some(Spaces {
                 space,
                 cspace,
                 root,
-            },
+            }),
             context,
-            results,
-            ticks: t.ticks,
+            ..t
         },
     );
-    Answer::Done
+    Ok(())
 }
 
 // The place of the current thread, which is there.
@@ -116,92 +88,52 @@ pub fn current_place(a: &[u8]) -> usize
     requires { sound_area a.now ≡ true }
     ensures { Here no_row (decode a.now).threads (decode a.now).current result }
 {
-    let current = area::current(a);
-    match area::find_thread(a, current) {
-        Found::At(i) => i,
-        Found::Nothing => 0,
-    }
+    area::find_thread(a, area::current(a)).unwrap_or(0)
 }
 
-pub fn block_current(a: &mut [u8], kind: u64, number: u64) -> Answer
+pub fn block_current(a: &mut [u8], kind: u64, number: u64) -> Result<(), Refusal>
     requires { sound_area a.old ≡ true }
-    ensures { Serves (block_current kind number) a.old result a.new }
+    ensures { Serves (block_current kind number) nothing a.old result a.new }
 {
-    if !is_wait_listed(kind) {
-        return Answer::Refused(refused::CODE);
-    }
+    let wait = Wait::from_code(kind, number).ok_or(Refusal::Code)?;
     let i = current_place(a);
-    let t = area::thread_at(a, i);
-    if t.state != RUNNING {
-        return Answer::Refused(refused::STATE);
+    if area::state_at(a, i) != State::Running || area::current(a) == IDLE {
+        return Err(Refusal::State);
     }
-    if area::current(a) == IDLE {
-        return Answer::Refused(refused::STATE);
-    }
-    area::set_state(a, i, BLOCKED, Wait { kind, number });
-    Answer::Done
+    area::set_state(a, i, State::Blocked(wait));
+    Ok(())
 }
 
-// Is the thread at place i Blocked on this?
-fn blocked_at(a: &[u8], i: usize, kind: u64, number: u64) -> bool
-    requires well_formed { WellFormed a.now }
-    requires i_in_bounds { i < length (decode a.now).threads }
-    ensures { result ≡ (is blocked (slice_index_or (decode a.now).threads i no_row).it && ((slice_index_or (decode a.now).threads i no_row).it.wait.kind == kind && (slice_index_or (decode a.now).threads i no_row).it.wait.number == number)) }
-{
-    let t = area::thread_at(a, i);
-    let wait = t.wait;
-    if t.state != BLOCKED {
-        return false;
-    }
-    if wait.kind != kind {
-        return false;
-    }
-    if wait.number != number {
-        return false;
-    }
-    true
-}
-
-pub fn is_blocked_on(a: &[u8], id: u64, kind: u64, number: u64) -> Answer
+pub fn is_blocked_on(a: &[u8], id: u64, kind: u64, number: u64) -> Result<bool, Refusal>
     requires { sound_area a.now ≡ true }
-    ensures { Serves (is_blocked_on id kind number) a.now result a.now }
+    ensures { Serves (is_blocked_on id kind number) blocked_of a.now result a.now }
 {
-    if !is_wait_listed(kind) {
-        return Answer::Refused(refused::CODE);
-    }
-    let Found::At(i) = area::find_thread(a, id) else {
-        return Answer::NotBlocked;
+    let wait = Wait::from_code(kind, number).ok_or(Refusal::Code)?;
+    let Some(i) = area::find_thread(a, id) else {
+        return Ok(false);
     };
-    if blocked_at(a, i, kind, number) {
-        return Answer::Blocked;
-    }
-    Answer::NotBlocked
+    Ok(area::state_at(a, i) == State::Blocked(wait))
 }
 
 // A thread's record.
-pub fn read_thread(a: &[u8], id: u64) -> Answer
+pub fn read_thread(a: &[u8], id: u64) -> Result<Thread, Refusal>
     requires { sound_area a.now ≡ true }
-    ensures { Serves (read_thread id) a.now result a.now }
+    ensures { Serves (read_thread id) thread_of a.now result a.now }
 {
-    let Found::At(i) = area::find_thread(a, id) else {
-        return Answer::Refused(refused::MISSING);
-    };
-    let t = area::thread_at(a, i);
-    Answer::Record(t)
+    let i = area::find_thread(a, id).ok_or(Refusal::Missing)?;
+    Ok(area::thread_at(a, i))
 }
 
-pub fn current(a: &[u8]) -> Answer
+pub fn current(a: &[u8]) -> Result<u64, Refusal>
     requires { sound_area a.now ≡ true }
-    ensures { Serves read_current a.now result a.now }
+    ensures { Serves read_current word_of a.now result a.now }
 {
-    let id = area::current(a);
-    Answer::Word(id)
+    Ok(area::current(a))
 }
 
-pub fn switches(a: &[u8]) -> Answer
+pub fn switches(a: &[u8]) -> Result<u64, Refusal>
     requires { sound_area a.now ≡ true }
-    ensures { Serves read_switches a.now result a.now }
+    ensures { Serves read_switches word_of a.now result a.now }
 {
-    let count = area::switches(a);
-    Answer::Word(count)
+    Ok(area::switches(a))
 }

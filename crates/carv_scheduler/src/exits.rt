@@ -3,14 +3,15 @@ ghost use Rattle.std.specs.Prelude.{◌≡◌, ◌+◌, ◌*◌, ◌<◌, ◌≤
 ghost use Rattle.carv_area.specs.Words.{words};
 ghost use Rattle.carv_area.specs.Stored.{Stored};
 ghost use Rattle.carv_scheduler_spec.specs.Scheduler.{logged, exit_in, exit_of};
+ghost use Rattle.carv_scheduler.specs.Answer.{cause_of};
 ghost use Rattle.carv_scheduler.specs.Area.{exit_fields, exit_at, exits_in, decode, sound_area, Serves};
 ghost use Rattle.carv_scheduler.specs.Laws.Rows.{no_exit};
 ghost use Rattle.carv_scheduler.specs.Laws.Formed.{WellFormed, Leaves};
 ghost use Rattle.carv_scheduler.specs.Laws.ExitSteps.{exit, with_exits, spared};
-ghost use Rattle.carv_scheduler.specs.ExitRun.{cause_of};
 
-use crate::{Answer, area};
-use carv_scheduler_spec::Exit;
+use crate::area;
+use carv_objects::Refusal;
+use carv_scheduler_spec::{Cause, Exit};
 
 // How many exits the log holds.
 pub const PLACES: usize = 32;
@@ -28,19 +29,19 @@ fn read_exit(t: &[u8], i: usize) -> Exit
     ensures { result ≡ exit_at (words t.now) i }
 {
     let thread = carv_area::get(t, i * ROW + THREAD);
-    let cause = carv_area::get(t, i * ROW + CAUSE);
+    let cause = Cause::of_code(carv_area::get(t, i * ROW + CAUSE));
     Exit { thread, cause }
 }
 
 // An exit behind the others of the log t, which has room.
-fn append_exit(t: &mut [u8], thread: u64, cause: u64)
+fn append_exit(t: &mut [u8], thread: u64, cause: Cause)
     requires stored { Stored exit_fields 2 t.old (exits_in (words t.old)) }
     requires t_in_bounds { (length (exits_in (words t.old)) * 2 + 2) * 8 + 8 ≤ length t.old }
     ensures { Stored exit_fields 2 t.new (exits_in (words t.old) ++ (exit thread cause ∷ [])) }
 {
     let n = carv_area::get(t, 0) as usize;
     carv_area::put(t, n * ROW + THREAD, thread);
-    carv_area::put(t, n * ROW + CAUSE, cause);
+    carv_area::put(t, n * ROW + CAUSE, cause.code());
     carv_area::put(t, 0, (n + 1) as u64);
 }
 
@@ -71,7 +72,7 @@ fn drop_oldest(a: &mut [u8])
 }
 
 // An exit behind the others.
-fn add_exit(a: &mut [u8], thread: u64, cause: u64)
+fn add_exit(a: &mut [u8], thread: u64, cause: Cause)
     requires well_formed { WellFormed a.old }
     requires a_len_bound { length (decode a.old).exits < 32 }
     ensures { Leaves a.new (with_exits ((decode a.old).exits ++ (exit thread cause ∷ [])) (decode a.old)) }
@@ -90,7 +91,7 @@ fn make_room(a: &mut [u8])
 }
 
 // A thread's end is logged.
-pub fn log_exit(a: &mut [u8], thread: u64, cause: u64)
+pub fn log_exit(a: &mut [u8], thread: u64, cause: Cause)
     requires { WellFormed a.old }
     ensures { Leaves a.new (with_exits (logged (exit thread cause) (decode a.old).exits) (decode a.old)) }
 {
@@ -99,40 +100,22 @@ pub fn log_exit(a: &mut [u8], thread: u64, cause: u64)
 }
 
 // The cause of the thread's oldest logged end.
-pub fn exit_of(a: &[u8], id: u64) -> Answer
+pub fn exit_of(a: &[u8], id: u64) -> Result<Option<Cause>, Refusal>
     requires { sound_area a.now ≡ true }
-    ensures { Serves (exit_of id) a.now result a.now }
+    ensures { Serves (exit_of id) cause_of a.now result a.now }
 {
-    let n = exit_count(a);
-    let mut i = 0;
-    while i < n {
+    for i in 0..exit_count(a) {
         let e = exit_at(a, i);
         if e.thread == id {
-            return Answer::Cause(e.cause);
+            return Ok(Some(e.cause));
         }
-        i += 1;
     }
-    Answer::NoCause
-}
-
-// What a run of exits says of a thread: the cause of its end, or nothing.
-#[derive(Clone, Copy)]
-pub enum Cause {
-    Logged(u64),
-    Nothing,
+    Ok(None)
 }
 
 // The same in a lent run of exits, from the oldest.
-pub fn exit_in(exits: &[Exit], thread: u64) -> Cause
-    ensures { cause_of result ≡ exit_in thread exits.now }
+pub fn exit_in(exits: &[Exit], thread: u64) -> Option<Cause>
+    ensures { result ≡ exit_in thread exits.now }
 {
-    let mut i: usize = 0;
-    while i < exits.len() {
-        let e = exits[i];
-        if e.thread == thread {
-            return Cause::Logged(e.cause);
-        }
-        i += 1;
-    }
-    Cause::Nothing
+    exits.iter().find(|e| e.thread == thread).map(|e| e.cause)
 }

@@ -1,16 +1,16 @@
 // The call that fills a register image, for thread 0 and idle.
+ghost use Rattle.carv_objects.specs.Answer.{number};
 ghost use Rattle.carv_scheduler.specs.Image.{Filled};
 
-use crate::numbers::ACCEPTED;
-use carv_objects::refused;
+use carv_objects::Refusal;
 
-// Document 01's number: 1, and the image as it came, where its length is another.
-pub fn write_image(image: &mut [u8]) -> u64
-    ensures { Filled image.old result image.new }
+// Refused, and the image as it came, where its length is another.
+pub fn write_image(image: &mut [u8]) -> Result<(), Refusal>
+    ensures { Filled image.old (number result) image.new }
 {
     if image.len() != carv_register_image::BYTES {
-        return refused::UNSOUND;
+        return Err(Refusal::Unsound);
     }
     carv_register_image::fill_image(image);
-    ACCEPTED
+    Ok(())
 }

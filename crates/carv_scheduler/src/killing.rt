@@ -2,49 +2,31 @@
 ghost use Rattle.std.specs.Prelude.{◌≡◌, true};
 ghost use Rattle.carv_area.specs.Lookup.{Here};
 ghost use Rattle.carv_area.specs.Keys.{find_in};
-ghost use Rattle.carv_scheduler_spec.specs.Scheduler.{cause_listed, without, kill};
+ghost use Rattle.carv_scheduler_spec.specs.Scheduler.{without, kill};
+ghost use Rattle.carv_scheduler.specs.Answer.{ended_of};
 ghost use Rattle.carv_scheduler_spec.specs.Sound.{distinct};
 ghost use Rattle.carv_scheduler.specs.Area.{decode, sound_area, Serves};
 ghost use Rattle.carv_scheduler.specs.Laws.Rows.{no_row};
 ghost use Rattle.carv_scheduler.specs.Laws.Formed.{WellFormed, Leaves};
 ghost use Rattle.carv_scheduler.specs.Laws.AreaSteps.{with_threads, with_queue};
 ghost use Rattle.carv_scheduler_spec.specs.Killed.{killed};
-ghost use Rattle.carv_scheduler.specs.Laws.KillSteps.{wait_answer};
 
-use crate::numbers::{BLOCKED, DEAD, DESTROYED, FAULTED, IDLE};
-use crate::{Answer, area, exits, rows};
-use carv_area::Found;
-use carv_objects::refused;
-use carv_scheduler_spec::Thread;
-
-// Is the cause Destroyed or Faulted?
-pub fn is_cause(cause: u64) -> bool
-    ensures { result ≡ cause_listed cause }
-{
-    if cause < DESTROYED {
-        return false;
-    }
-    if cause > FAULTED {
-        return false;
-    }
-    true
-}
+use crate::numbers::IDLE;
+use crate::{area, exits};
+use carv_objects::Refusal;
+use carv_scheduler_spec::{Cause, State, Wait};
 
 // The place of a thread in the ready queue.
-fn queue_find(a: &[u8], id: u64) -> Found
+fn queue_find(a: &[u8], id: u64) -> Option<usize>
     requires { WellFormed a.now }
     ensures { result ≡ find_in (decode a.now).queue id }
 {
-    let n = area::queue_length(a);
-    let mut i = 0;
-    while i < n {
-        let x = area::queue_at(a, i);
-        if x == id {
-            return Found::At(i);
+    for i in 0..area::queue_length(a) {
+        if area::queue_at(a, i) == id {
+            return Some(i);
         }
-        i += 1;
     }
-    Found::Nothing
+    None
 }
 
 // A thread leaves the ready queue, if it is there.
@@ -53,10 +35,9 @@ pub fn leave_queue(a: &mut [u8], id: u64)
     requires a_value { distinct (decode a.old).queue ≡ true }
     ensures { Leaves a.new (with_queue (without id (decode a.old).queue) (decode a.old)) }
 {
-    let Found::At(i) = queue_find(a, id) else {
-        return;
-    };
-    area::queue_pull(a, i);
+    if let Some(i) = queue_find(a, id) {
+        area::queue_pull(a, i);
+    }
 }
 
 // The thread at place i is Dead if it is current; any other is taken out.
@@ -66,39 +47,24 @@ fn end_thread(a: &mut [u8], i: usize, id: u64)
     ensures { Leaves a.new (with_threads (killed id (decode a.old)) (decode a.old)) }
 {
     if id == area::current(a) {
-        return area::set_state(a, i, DEAD, rows::NO_WAIT);
+        return area::set_state(a, i, State::Dead);
     }
     area::remove_thread(a, i)
 }
 
-// What a kill answers of a thread as it was: its wait, if it was Blocked.
-fn wait_answer(t: Thread) -> Answer
-    ensures { result ≡ wait_answer t }
-{
-    let wait = t.wait;
-    if t.state == BLOCKED {
-        Answer::Ended(wait)
-    } else {
-        Answer::EndedNothing
-    }
-}
-
-pub fn kill(a: &mut [u8], id: u64, cause: u64) -> Answer
+// The answer is the wait that the end cut off.
+pub fn kill(a: &mut [u8], id: u64, cause: u64) -> Result<Option<Wait>, Refusal>
     requires { sound_area a.old ≡ true }
-    ensures { Serves (kill id cause) a.old result a.new }
+    ensures { Serves (kill id cause) ended_of a.old result a.new }
 {
-    if !is_cause(cause) {
-        return Answer::Refused(refused::CODE);
-    }
+    let cause = Cause::from_code(cause).ok_or(Refusal::Code)?;
     if id == IDLE {
-        return Answer::Refused(refused::ID);
+        return Err(Refusal::Id);
     }
-    let Found::At(i) = area::find_thread(a, id) else {
-        return Answer::Refused(refused::MISSING);
-    };
-    let t = area::thread_at(a, i);
+    let i = area::find_thread(a, id).ok_or(Refusal::Missing)?;
+    let state = area::state_at(a, i);
     end_thread(a, i, id);
     leave_queue(a, id);
     exits::log_exit(a, id, cause);
-    wait_answer(t)
+    Ok(state.wait())
 }

@@ -1,28 +1,4 @@
-// Numbers that more than one file names. carv_objects::refused has those of refusals.
-
-// The number of an accepted call.
-pub const ACCEPTED: u64 = 0;
-
-// The states of a thread, from the first to the last.
-pub const INACTIVE: u64 = 1;
-
-pub const READY: u64 = 2;
-
-pub const RUNNING: u64 = 3;
-
-pub const BLOCKED: u64 = 4;
-
-pub const DEAD: u64 = 5;
-
-// The first and the last of the five kinds of a wait.
-pub const SEND: u64 = 1;
-
-pub const SLEEP: u64 = 5;
-
-// The two causes of a thread's end.
-pub const DESTROYED: u64 = 1;
-
-pub const FAULTED: u64 = 2;
+// Numbers that more than one file names. carv_objects::Refusal has those of refusals, carv_scheduler_spec those of states, waits and causes.
 
 // The ids of the first thread and of the idle thread, which have no budget.
 pub const FIRST: u64 = 0;

@@ -4,20 +4,22 @@ ghost use Rattle.carv_scheduler.specs.Area.{Opened};
 ghost use Rattle.carv_scheduler.specs.Laws.Formed.{Leaves};
 ghost use Rattle.carv_scheduler.specs.Laws.Opening.{Wiped, RegistryOpened, blank_board};
 
-use crate::numbers::{FIRST, IDLE, READY, RUNNING};
-use crate::{Answer, area, rows};
+use crate::numbers::{FIRST, IDLE};
+use crate::{area, rows};
 use carv_budget::Account;
-use carv_objects::refused;
+use carv_objects::Refusal;
+use carv_scheduler_spec::State;
 
 // How many words, of 8 bytes, stand behind the registry.
 const REST: usize = (area::BYTES - area::HEAD) / 8;
 
-fn open_registry(a: &mut [u8], cpu: u64, memory: u64) -> carv_objects::Answer
+fn open_registry(a: &mut [u8], cpu: u64, memory: u64)
     requires a_len { length a.old ≡ 68_144 }
     requires cpu_bound { cpu ≤ 10_000_000 }
     ensures { RegistryOpened cpu memory a.old a.new }
 {
-    carv_objects::open(&mut a[0..area::HEAD], cpu, memory)
+    // The length and the share are what opening asks: it is not refused.
+    let _opened = carv_objects::open(&mut a[0..area::HEAD], cpu, memory);
 }
 
 // Every word behind the registry is 0.
@@ -38,17 +40,17 @@ fn blank(a: &mut [u8], cpu: u64, memory: u64)
     clear_rest(a);
 }
 
-pub fn open(area: &mut [u8], cpu: u64, memory: u64) -> Answer
+pub fn open(area: &mut [u8], cpu: u64, memory: u64) -> Result<(), Refusal>
     ensures { Opened cpu memory area.old result area.new }
 {
     if area.len() != area::BYTES {
-        return Answer::Refused(refused::UNSOUND);
+        return Err(Refusal::Unsound);
     }
     if cpu > Account::PERIOD {
-        return Answer::Refused(refused::SHARE);
+        return Err(Refusal::Share);
     }
     blank(area, cpu, memory);
-    area::insert_thread(area, FIRST, rows::fresh_thread(RUNNING, rows::NO_BUDGET));
-    area::insert_thread(area, IDLE, rows::fresh_thread(READY, rows::NO_BUDGET));
-    Answer::Done
+    area::insert_thread(area, FIRST, rows::fresh_thread(State::Running, None));
+    area::insert_thread(area, IDLE, rows::fresh_thread(State::Ready, None));
+    Ok(())
 }

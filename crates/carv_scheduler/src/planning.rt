@@ -1,30 +1,32 @@
 // Planning: a running thread goes back to the queue, the first thread of the queue with time left is taken out, and it runs.
 ghost use Rattle.std.specs.Prelude.{◌≡◌, ◌+◌, ◌%◌, ◌^◌, ◌<◌, true, length, slice_index_or};
 ghost use Rattle.carv_area.specs.Lookup.{Located};
-ghost use Rattle.carv_scheduler_spec.specs.Scheduler.{is, dead, thread, plan};
+ghost use Rattle.carv_scheduler_spec.specs.Scheduler.{is, dead, thread, root_of, plan};
+ghost use Rattle.carv_scheduler.specs.Answer.{switch_of};
 ghost use Rattle.carv_scheduler.specs.Area.{decode, sound_area, Serves};
 ghost use Rattle.carv_scheduler.specs.Laws.Rows.{no_row};
 ghost use Rattle.carv_scheduler.specs.Laws.Formed.{WellFormed, Leaves};
 ghost use Rattle.carv_scheduler.specs.Laws.AreaSteps.{with_head};
-ghost use Rattle.carv_scheduler.specs.Laws.Planning.{Renewing, guess_behind, Tests, Tries, Walks, Chooses, Backs, Values, Runs, Leaving, Switches};
+ghost use Rattle.carv_scheduler.specs.Laws.Planning.{Renewing, guess_behind, Tests, Tries, Walks, Chooses, Backs, Told, Runs, Leaving, Switches};
 
-use crate::numbers::{DEAD, IDLE, LAST_TICK, READY, RUNNING, TICK};
-use crate::{Answer, area, rows};
-use carv_area::Found;
-use carv_objects::refused;
+use crate::area;
+use crate::numbers::{IDLE, LAST_TICK, TICK};
+use carv_objects::Refusal;
+use carv_scheduler_spec::State;
 
-// The thread to run: its places in the queue and in the table, or idle.
-#[derive(Clone, Copy)]
-pub enum Next {
-    At(usize, usize),
-    Idle,
+// A context switch: the thread that ran, the thread that runs, and the root of its page table, or None for the kernel's.
+#[derive(Clone, Copy, Debug, PartialEq, Eq)]
+pub struct Switch {
+    pub old: u64,
+    pub new: u64,
+    pub root: Option<u64>,
 }
 
 // The thread to run, out of the queue: its id, and its place in the table.
 #[derive(Clone, Copy)]
 pub struct Chosen {
     pub id: u64,
-    pub at: Found,
+    pub at: Option<usize>,
 }
 
 // Renews the budget id, if it is live. Has it CPU left then?
@@ -41,59 +43,45 @@ fn has_time(a: &mut [u8], i: usize, time: u64) -> bool
     requires i_in_bounds { i < length (decode a.old).threads }
     ensures { Tests time (slice_index_or (decode a.old).threads i no_row).it.budget a.old result a.new }
 {
-    if area::thread_word(a, i, area::BUDGET) == 0 {
-        return true;
+    match area::budget_at(a, i) {
+        None => true,
+        Some(budget) => renew(a, budget, time),
     }
-    let budget = area::thread_word(a, i, area::BUDGET_ID);
-    renew(a, budget, time)
 }
 
 // Renews the budget of the thread id, which stands at this place. The place, if it is one and the thread has time left.
-fn try_thread(a: &mut [u8], id: u64, at: Found, time: u64) -> Found
+fn try_thread(a: &mut [u8], id: u64, at: Option<usize>, time: u64) -> Option<usize>
     requires well_formed { WellFormed a.old }
     requires located { Located no_row (decode a.old).threads id at }
     ensures { Tries time id a.old result a.new }
 {
-    let Found::At(i) = at else {
-        return Found::Nothing;
-    };
-    if has_time(a, i, time) {
-        return Found::At(i);
-    }
-    Found::Nothing
+    let i = at?;
+    has_time(a, i, time).then_some(i)
 }
 
 // Where the next thread of the queue is looked for first: in most queues ids rise from one to the next.
-fn guess_behind(at: Found) -> usize
+fn guess_behind(at: Option<usize>) -> usize
     ensures { result ≡ guess_behind at }
 {
-    let Found::At(i) = at else {
-        return 0;
-    };
-    if i < area::PLACES {
-        return i + 1;
-    }
-    0
+    at.map_or(0, |i| if i < area::PLACES { i + 1 } else { 0 })
 }
 
-// The first thread of the queue with time left, each tested after its budget is renewed.
-fn walk(a: &mut [u8], time: u64) -> Next
+// The first thread of the queue with time left, each tested after its budget is renewed: its places in the queue and in the table. With
+// none, idle runs.
+fn walk(a: &mut [u8], time: u64) -> Option<(usize, usize)>
     requires { WellFormed a.old }
     ensures { Walks time a.old result a.new }
 {
-    let n = area::queue_length(a);
     let mut guess = 0;
-    let mut k = 0;
-    while k < n {
+    for k in 0..area::queue_length(a) {
         let id = area::queue_at(a, k);
         let at = area::find_thread_near(a, id, guess);
         guess = guess_behind(at);
-        if let Found::At(i) = try_thread(a, id, at, time) {
-            return Next::At(k, i);
+        if let Some(i) = try_thread(a, id, at, time) {
+            return Some((k, i));
         }
-        k += 1;
     }
-    Next::Idle
+    None
 }
 
 // The thread to run, which leaves the queue.
@@ -101,15 +89,13 @@ fn choose(a: &mut [u8], time: u64) -> Chosen
     requires { WellFormed a.old }
     ensures { Chooses time a.old result a.new }
 {
+    // A `match`, since both arms use the area, which two closures can't.
     match walk(a, time) {
-        Next::At(k, i) => {
+        Some((k, i)) => {
             let id = area::queue_pull(a, k);
-            Chosen {
-                id,
-                at: Found::At(i),
-            }
+            Chosen { id, at: Some(i) }
         }
-        Next::Idle => {
+        None => {
             let at = area::find_thread(a, IDLE);
             Chosen { id: IDLE, at }
         }
@@ -122,49 +108,52 @@ fn put_back(a: &mut [u8], old: u64) -> bool
     requires value { old ≡ (decode a.old).current }
     ensures { Backs old a.old result a.new }
 {
-    let Found::At(i) = area::find_thread(a, old) else {
+    let Some(i) = area::find_thread(a, old) else {
         return false;
     };
-    let state = area::thread_word(a, i, area::STATE);
-    if state != RUNNING {
-        return state == DEAD;
+    let state = area::state_at(a, i);
+    if state != State::Running {
+        return state == State::Dead;
     }
     if old == IDLE {
         return false;
     }
-    area::set_state(a, i, READY, rows::NO_WAIT);
+    area::set_state(a, i, State::Ready);
     area::queue_push(a, old);
     false
 }
 
-// The answer of a switch from old to id, which stands at this place.
-fn switch_answer(a: &[u8], old: u64, id: u64, at: Found) -> Answer
+// The page-table root of the thread id, which stands at this place.
+fn root_at(a: &[u8], id: u64, at: Option<usize>) -> Option<u64>
     requires well_formed { WellFormed a.now }
     requires located { Located no_row (decode a.now).threads id at }
-    ensures { Values old id (decode a.now) result }
+    ensures { result ≡ root_of (thread (decode a.now).threads id) }
+{
+    let i = at?;
+    area::root_at(a, i)
+}
+
+// The switch from old to id, which stands at this place, if they are two.
+fn switch_answer(a: &[u8], old: u64, id: u64, at: Option<usize>) -> Option<Switch>
+    requires well_formed { WellFormed a.now }
+    requires located { Located no_row (decode a.now).threads id at }
+    ensures { Told old id (decode a.now) result }
 {
     if id == old {
-        return Answer::NoSwitch;
+        return None;
     }
-    let Found::At(i) = at else {
-        return Answer::SwitchToKernel(old, id);
-    };
-    if area::thread_word(a, i, area::SPACE) == 0 {
-        return Answer::SwitchToKernel(old, id);
-    }
-    let root = area::thread_word(a, i, area::ROOT);
-    Answer::Switch(old, id, root)
+    let root = root_at(a, id, at);
+    Some(Switch { old, new: id, root })
 }
 
 // The thread id, which stands at this place, runs.
-fn run(a: &mut [u8], id: u64, at: Found)
+fn run(a: &mut [u8], id: u64, at: Option<usize>)
     requires well_formed { WellFormed a.old }
     requires located { Located no_row (decode a.old).threads id at }
     ensures { Runs id a.old a.new }
 {
-    match at {
-        Found::At(i) => area::set_state(a, i, RUNNING, rows::NO_WAIT),
-        Found::Nothing => {}
+    if let Some(i) = at {
+        area::set_state(a, i, State::Running)
     }
 }
 
@@ -176,9 +165,8 @@ fn leave(a: &mut [u8], id: u64, killed: bool)
     if !killed {
         return;
     }
-    match area::find_thread(a, id) {
-        Found::At(i) => area::remove_thread(a, i),
-        Found::Nothing => {}
+    if let Some(i) = area::find_thread(a, id) {
+        area::remove_thread(a, i)
     }
 }
 
@@ -192,15 +180,14 @@ fn set_current(a: &mut [u8], id: u64)
 }
 
 // The chosen thread runs, in place of old; one that is left dead goes.
-fn switch_to(a: &mut [u8], old: u64, killed: bool, next: Chosen) -> Answer
+fn switch_to(a: &mut [u8], old: u64, killed: bool, next: Chosen) -> Option<Switch>
     requires well_formed { WellFormed a.old }
     requires value { old ≡ (decode a.old).current }
     requires killed_value { killed ≡ is dead (thread (decode a.old).threads old) }
     requires located { Located no_row (decode a.old).threads next.id next.at }
     ensures { Switches next.id a.old result a.new }
 {
-    let id = next.id;
-    let at = next.at;
+    let Chosen { id, at } = next;
     let said = switch_answer(a, old, id, at);
     run(a, id, at);
     if id != old {
@@ -211,16 +198,16 @@ fn switch_to(a: &mut [u8], old: u64, killed: bool, next: Chosen) -> Answer
 }
 
 // Plans at tick n: the thread to run, and the switch to make.
-pub fn plan(a: &mut [u8], n: u64) -> Answer
+pub fn plan(a: &mut [u8], n: u64) -> Result<Option<Switch>, Refusal>
     requires { sound_area a.old ≡ true }
-    ensures { Serves (plan n) a.old result a.new }
+    ensures { Serves (plan n) switch_of a.old result a.new }
 {
     if n > LAST_TICK {
-        return Answer::Refused(refused::TICK);
+        return Err(Refusal::Tick);
     }
     let time = n * TICK;
     let old = area::current(a);
     let killed = put_back(a, old);
     let next = choose(a, time);
-    switch_to(a, old, killed, next)
+    Ok(switch_to(a, old, killed, next))
 }

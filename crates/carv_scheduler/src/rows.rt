@@ -3,11 +3,10 @@ ghost use Rattle.std.specs.Prelude.{◌≡◌, ◌+◌, ◌*◌, ◌%◌, ◌^�
 ghost use Rattle.carv_area.specs.Words.{words};
 ghost use Rattle.carv_area.specs.Moves.{open_row};
 ghost use Rattle.carv_scheduler_spec.specs.Scheduler.{fresh};
-ghost use Rattle.carv_scheduler.specs.Area.{wait_at, budget_id_at, spaces_at, context_at, results_at, thread_at};
+ghost use Rattle.carv_scheduler.specs.Area.{wait_at, state_at, budget_at, spaces_at, root_at, context_at, results_at, thread_at};
 ghost use Rattle.carv_scheduler.specs.Laws.Rows.{row, set_state, set_start, set_spaces, set_context, set_results, set_ticks, set_end, set_woken, set_thread};
 
-use crate::numbers::READY;
-use carv_scheduler_spec::{BudgetId, Context, Results, Spaces, Thread, Wait};
+use carv_scheduler_spec::{Context, Results, Spaces, State, Thread, Wait, is_word};
 
 // How many words a row has, and which of them is what, counted from the word before the row. The first word of a part bears its name.
 pub const ROW: usize = 21;
@@ -26,9 +25,9 @@ pub const BUDGET_ID: usize = BUDGET + 1;
 
 pub const SPACES: usize = 7;
 
-const SPACE: usize = SPACES + 1;
+pub const SPACE: usize = SPACES + 1;
 
-const CSPACE: usize = SPACES + 2;
+pub const CSPACE: usize = SPACES + 2;
 
 pub const ROOT: usize = SPACES + 3;
 
@@ -59,11 +58,7 @@ pub const CURRENT: usize = 0;
 
 pub const SWITCHES: usize = 1;
 
-// What stands where a thread waits for nothing, where it has no budget, and where no call left results.
-pub const NO_WAIT: Wait = Wait { kind: 0, number: 0 };
-
-pub const NO_BUDGET: BudgetId = BudgetId { is: 0, id: 0 };
-
+// What stands where no call left results.
 pub const NO_RESULTS: Results = Results {
     first: 0,
     second: 0,
@@ -74,19 +69,13 @@ pub const NO_RESULTS: Results = Results {
 const FRESH_RFLAGS: u64 = 0x202;
 
 // The record of a new thread.
-pub fn fresh_thread(state: u64, budget: BudgetId) -> Thread
+pub fn fresh_thread(state: State, budget: Option<u64>) -> Thread
     ensures { result ≡ fresh state budget }
 {
     Thread {
         state,
-        wait: NO_WAIT,
         budget,
-        spaces: Spaces {
-            is: 0,
-            space: 0,
-            cspace: 0,
-            root: 0,
-        },
+        spaces: None,
         context: Context {
             rip: 0,
             rsp: 0,
@@ -101,38 +90,65 @@ pub fn fresh_thread(state: u64, budget: BudgetId) -> Thread
     }
 }
 
-pub fn read_wait(t: &[u8], o: usize) -> Wait
+fn read_wait(t: &[u8], o: usize) -> Wait
     requires { o * 8 + 16 ≤ length t.now }
     ensures { result ≡ wait_at (words t.now) o }
 {
     let kind = carv_area::get(t, o);
     let number = carv_area::get(t, o + 1);
-    Wait { kind, number }
+    Wait::of_code(kind, number)
 }
 
-pub fn read_budget_id(t: &[u8], o: usize) -> BudgetId
-    requires { o * 8 + 16 ≤ length t.now }
-    ensures { result ≡ budget_id_at (words t.now) o }
+// The state at word o, by its code, and by its wait where it is Blocked. Of a word that is no code, Dead.
+pub fn read_state(t: &[u8], o: usize) -> State
+    requires { o * 8 + 24 ≤ length t.now }
+    ensures { result ≡ state_at (words t.now) o }
 {
-    let is = carv_area::get(t, o);
-    let id = carv_area::get(t, o + 1);
-    BudgetId { is, id }
+    match carv_area::get(t, o) {
+        State::INACTIVE => State::Inactive,
+        State::READY => State::Ready,
+        State::RUNNING => State::Running,
+        State::BLOCKED => State::Blocked(read_wait(t, o + 1)),
+        _ => State::Dead,
+    }
 }
 
-pub fn read_spaces(t: &[u8], o: usize) -> Spaces
+pub fn read_budget(t: &[u8], o: usize) -> Option<u64>
+    requires { o * 8 + 16 ≤ length t.now }
+    ensures { result ≡ budget_at (words t.now) o }
+{
+    if carv_area::get(t, o) == 0 {
+        return None;
+    }
+    Some(carv_area::get(t, o + 1))
+}
+
+fn read_spaces(t: &[u8], o: usize) -> Option<Spaces>
     requires { o * 8 + 32 ≤ length t.now }
     ensures { result ≡ spaces_at (words t.now) o }
 {
-    let is = carv_area::get(t, o);
+    if carv_area::get(t, o) == 0 {
+        return None;
+    }
     let space = carv_area::get(t, o + 1);
     let cspace = carv_area::get(t, o + 2);
     let root = carv_area::get(t, o + 3);
-    Spaces {
-        is,
+    Some(Spaces {
         space,
         cspace,
         root,
+    })
+}
+
+// The page-table root of the space at word o alone.
+pub fn read_root(t: &[u8], o: usize) -> Option<u64>
+    requires { o * 8 + 32 ≤ length t.now }
+    ensures { result ≡ root_at (words t.now) o }
+{
+    if carv_area::get(t, o) == 0 {
+        return None;
     }
+    Some(carv_area::get(t, o + 3))
 }
 
 fn read_context(t: &[u8], o: usize) -> Context
@@ -177,16 +193,14 @@ pub fn read_thread(t: &[u8], i: usize) -> Thread
     ensures { result ≡ (thread_at (words t.now) i).it }
 {
     let o = i * ROW;
-    let state = carv_area::get(t, o + STATE);
-    let wait = read_wait(t, o + WAIT);
-    let budget = read_budget_id(t, o + BUDGET);
+    let state = read_state(t, o + STATE);
+    let budget = read_budget(t, o + BUDGET);
     let spaces = read_spaces(t, o + SPACES);
     let context = read_context(t, o + CONTEXT);
     let results = read_results(t, o + RESULTS);
     let ticks = carv_area::get(t, o + TICKS);
     Thread {
         state,
-        wait,
         budget,
         spaces,
         context,
@@ -195,38 +209,39 @@ pub fn read_thread(t: &[u8], i: usize) -> Thread
     }
 }
 
-// The state and the wait of the record at place i.
-pub fn write_state(t: &mut [u8], i: usize, state: u64, wait: Wait)
+// The state of the record at place i, with its wait.
+pub fn write_state(t: &mut [u8], i: usize, state: State)
     requires { (i * 21 + 21) * 8 + 8 ≤ length t.old }
-    ensures { words t.new ≡ set_state (words t.old) i state wait }
+    ensures { words t.new ≡ set_state (words t.old) i state }
 {
     let o = i * ROW;
-    carv_area::put(t, o + STATE, state);
-    carv_area::put(t, o + WAIT, wait.kind);
-    carv_area::put(t, o + WAIT_NUMBER, wait.number);
+    carv_area::put(t, o + STATE, state.code());
+    carv_area::put(t, o + WAIT, state.wait_kind());
+    carv_area::put(t, o + WAIT_NUMBER, state.wait_number());
 }
 
-// The id, state, wait and budget of the record at place i.
-fn write_start(t: &mut [u8], i: usize, id: u64, state: u64, wait: Wait, budget: BudgetId)
+// The id, state and budget of the record at place i.
+fn write_start(t: &mut [u8], i: usize, id: u64, state: State, budget: Option<u64>)
     requires { (i * 21 + 21) * 8 + 8 ≤ length t.old }
-    ensures { words t.new ≡ set_start (words t.old) i id state wait budget }
+    ensures { words t.new ≡ set_start (words t.old) i id state budget }
 {
     let o = i * ROW;
     carv_area::put(t, o + ID, id);
-    write_state(t, i, state, wait);
-    carv_area::put(t, o + BUDGET, budget.is);
-    carv_area::put(t, o + BUDGET_ID, budget.id);
+    write_state(t, i, state);
+    carv_area::put(t, o + BUDGET, is_word(budget));
+    carv_area::put(t, o + BUDGET_ID, budget.unwrap_or(0));
 }
 
-fn write_spaces(t: &mut [u8], i: usize, spaces: Spaces)
+fn write_spaces(t: &mut [u8], i: usize, spaces: Option<Spaces>)
     requires { (i * 21 + 21) * 8 + 8 ≤ length t.old }
     ensures { words t.new ≡ set_spaces (words t.old) i spaces }
 {
     let o = i * ROW;
-    carv_area::put(t, o + SPACES, spaces.is);
-    carv_area::put(t, o + SPACE, spaces.space);
-    carv_area::put(t, o + CSPACE, spaces.cspace);
-    carv_area::put(t, o + ROOT, spaces.root);
+    let said = spaces.unwrap_or(Spaces::NONE);
+    carv_area::put(t, o + SPACES, is_word(spaces));
+    carv_area::put(t, o + SPACE, said.space);
+    carv_area::put(t, o + CSPACE, said.cspace);
+    carv_area::put(t, o + ROOT, said.root);
 }
 
 fn write_context(t: &mut [u8], i: usize, context: Context)
@@ -267,23 +282,22 @@ pub fn write_thread(t: &mut [u8], i: usize, id: u64, thread: Thread)
     requires { (i * 21 + 21) * 8 + 8 ≤ length t.old }
     ensures { words t.new ≡ set_thread (words t.old) i (row id thread) }
 {
-    let wait = thread.wait;
     let budget = thread.budget;
     let spaces = thread.spaces;
     let context = thread.context;
     let results = thread.results;
-    write_start(t, i, id, thread.state, wait, budget);
+    write_start(t, i, id, thread.state, budget);
     write_spaces(t, i, spaces);
     write_context(t, i, context);
     write_end(t, i, results, thread.ticks);
 }
 
-// The record at place i is Ready, waits for nothing and has these results.
+// The record at place i is Ready and has these results.
 pub fn write_woken(t: &mut [u8], i: usize, results: Results)
     requires { (i * 21 + 21) * 8 + 8 ≤ length t.old }
     ensures { words t.new ≡ set_woken (words t.old) i results }
 {
-    write_state(t, i, READY, NO_WAIT);
+    write_state(t, i, State::Ready);
     write_results(t, i, results);
 }
 

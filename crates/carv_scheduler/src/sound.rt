@@ -10,9 +10,11 @@ ghost use Rattle.carv_scheduler_spec.specs.Sound.{unpaid};
 ghost use Rattle.carv_scheduler.specs.Area.{sound_area};
 ghost use Rattle.carv_scheduler.specs.Laws.SoundWalk.{wait_fits, budget_fits, space_fits, state_fits, Ordered, Fits, Fit, Current, Idle, Walk, Turned, Walked, SoundThreads, SoundTables, SoundExits, SoundParts};
 
-use crate::numbers::{BLOCKED, DEAD, FIRST, IDLE, INACTIVE, READY, RUNNING};
-use crate::{area, calls, exits, killing, rows};
-use carv_area::Found;
+use crate::numbers::{FIRST, IDLE};
+use crate::rows::ROW;
+use crate::{area, exits, rows};
+use carv_area::Table;
+use carv_scheduler_spec::{Cause, State, Wait};
 
 // Where an id stands is noted under its rest by this prime, and how many notes there can be.
 const GUESSES: u64 = 251;
@@ -23,77 +25,53 @@ const NOTES: usize = 256;
 fn wait_fits(state: u64, kind: u64, number: u64) -> bool
     ensures { result ≡ wait_fits state kind number }
 {
-    if state == BLOCKED {
-        return calls::is_wait_listed(kind);
+    if state == State::BLOCKED {
+        Wait::is_listed(kind)
+    } else {
+        kind == 0 && number == 0
     }
-    if kind != 0 {
-        return false;
-    }
-    number == 0
 }
 
 // Has the thread id no budget?
 fn is_unpaid(id: u64) -> bool
     ensures { result ≡ unpaid id }
 {
-    if id == FIRST {
-        return true;
-    }
-    id == IDLE
+    id == FIRST || id == IDLE
 }
 
 // Has the thread id this budget?
 fn budget_fits(id: u64, is: u64, budget: u64) -> bool
     ensures { result ≡ budget_fits id is budget }
 {
-    if !is_unpaid(id) {
-        return is == 1;
+    if is_unpaid(id) {
+        is == 0 && budget == 0
+    } else {
+        is == 1
     }
-    if is != 0 {
-        return false;
-    }
-    budget == 0
 }
 
 // Is this a space, or none?
 fn space_fits(is: u64, space: u64, cspace: u64, root: u64) -> bool
     ensures { result ≡ space_fits is space cspace root }
 {
-    if is != 0 {
-        return is == 1;
+    if is == 0 {
+        space == 0 && cspace == 0 && root == 0
+    } else {
+        is == 1
     }
-    if space != 0 {
-        return false;
-    }
-    if cspace != 0 {
-        return false;
-    }
-    root == 0
 }
 
 // May the thread id, in the queue or not, be in this state?
 fn state_fits(state: u64, id: u64, current: u64, queued: bool) -> bool
     ensures { result ≡ state_fits queued current id state }
 {
-    if state < INACTIVE {
-        return false;
+    match state {
+        State::INACTIVE | State::BLOCKED => true,
+        State::READY => id == IDLE || queued,
+        State::RUNNING => id == IDLE || id == current,
+        State::DEAD => id == current,
+        _ => false,
     }
-    if state > DEAD {
-        return false;
-    }
-    if state == DEAD {
-        return id == current;
-    }
-    if id == IDLE {
-        return true;
-    }
-    if state == READY {
-        return queued;
-    }
-    if state == RUNNING {
-        return id == current;
-    }
-    true
 }
 
 // Is the thread at place i, in the queue or not, in order?
@@ -104,19 +82,25 @@ fn thread_fits(t: &[u8], i: usize, current: u64, queued: bool) -> bool
     let o = i * rows::ROW;
     let id = carv_area::get(t, o + rows::ID);
     let state = carv_area::get(t, o + rows::STATE);
+    // Tried as one `&&`, and the proof didn't close: what a test told is lost where its answers join.
     if !state_fits(state, id, current, queued) {
         return false;
     }
-    let wait = rows::read_wait(t, o + rows::WAIT);
-    if !wait_fits(state, wait.kind, wait.number) {
+    let kind = carv_area::get(t, o + rows::WAIT);
+    let number = carv_area::get(t, o + rows::WAIT_NUMBER);
+    if !wait_fits(state, kind, number) {
         return false;
     }
-    let budget = rows::read_budget_id(t, o + rows::BUDGET);
-    if !budget_fits(id, budget.is, budget.id) {
+    let is = carv_area::get(t, o + rows::BUDGET);
+    let budget = carv_area::get(t, o + rows::BUDGET_ID);
+    if !budget_fits(id, is, budget) {
         return false;
     }
-    let spaces = rows::read_spaces(t, o + rows::SPACES);
-    space_fits(spaces.is, spaces.space, spaces.cspace, spaces.root)
+    let is_space = carv_area::get(t, o + rows::SPACES);
+    let space = carv_area::get(t, o + rows::SPACE);
+    let cspace = carv_area::get(t, o + rows::CSPACE);
+    let root = carv_area::get(t, o + rows::ROOT);
+    space_fits(is_space, space, cspace, root)
 }
 
 // Are the n threads in order, where those in the queue are marked?
@@ -126,13 +110,10 @@ fn threads_fit(t: &[u8], n: usize, current: u64, marks: &[u64]) -> bool
     requires marks_len { length marks.now ≡ 128 }
     ensures { Tells result (Fit (words t.now) current n marks.now) }
 {
-    let mut i = 0;
-    while i < n {
-        let mark = marks[i];
-        if !thread_fits(t, i, current, mark == 1) {
+    for i in 0..n {
+        if !thread_fits(t, i, current, marks[i] == 1) {
             return false;
         }
-        i += 1;
     }
     true
 }
@@ -150,15 +131,13 @@ fn ids_rise(t: &[u8], n: usize, places: &mut [usize]) -> bool
     }
     let mut before = carv_area::get(t, rows::ID);
     places[(before % GUESSES) as usize] = 0;
-    let mut i = 1;
-    while i < n {
+    for i in 1..n {
         let id = carv_area::get(t, i * rows::ROW + rows::ID);
         if id <= before {
             return false;
         }
         before = id;
         places[(id % GUESSES) as usize] = i;
-        i += 1;
     }
     true
 }
@@ -168,10 +147,10 @@ fn current_fits(t: &[u8], current: u64) -> bool
     requires { Keyed 21 t.now }
     ensures { Tells result (Current (words t.now) current) }
 {
-    let Found::At(i) = carv_area::find(t, rows::ROW, current) else {
+    let Some(i) = Table::<ROW> { bytes: t }.find(current) else {
         return false;
     };
-    carv_area::get(t, i * rows::ROW + rows::STATE) != INACTIVE
+    carv_area::get(t, i * rows::ROW + rows::STATE) != State::INACTIVE
 }
 
 // Is idle there, Running, or Ready if it is not current?
@@ -179,14 +158,14 @@ fn idle_fits(t: &[u8], current: u64) -> bool
     requires { Keyed 21 t.now }
     ensures { Tells result (Idle (words t.now) current) }
 {
-    let Found::At(i) = carv_area::find(t, rows::ROW, IDLE) else {
+    let Some(i) = Table::<ROW> { bytes: t }.find(IDLE) else {
         return false;
     };
     let state = carv_area::get(t, i * rows::ROW + rows::STATE);
-    if state == RUNNING {
+    if state == State::RUNNING {
         return true;
     }
-    if state != READY {
+    if state != State::READY {
         return false;
     }
     current != IDLE
@@ -207,10 +186,10 @@ fn turn(t: &[u8], q: &[u8], j: usize, places: &[usize], marks: &mut [u64]) -> bo
         return false;
     }
     let guess = places[(id % GUESSES) as usize];
-    let Found::At(i) = carv_area::find_near(t, rows::ROW, id, guess) else {
+    let Some(i) = Table::<ROW> { bytes: t }.find_near(id, guess) else {
         return false;
     };
-    if carv_area::get(t, i * rows::ROW + rows::STATE) != READY {
+    if carv_area::get(t, i * rows::ROW + rows::STATE) != State::READY {
         return false;
     }
     if marks[i] != 0 {
@@ -230,12 +209,10 @@ fn queue_fits(t: &[u8], q: &[u8], m: usize, places: &[usize], marks: &mut [u64])
     requires walk { Walk (words t.now) (words q.now) 0 marks.old }
     ensures { Walked (words t.now) (words q.now) result marks.new }
 {
-    let mut j = 0;
-    while j < m {
+    for j in 0..m {
         if !turn(t, q, j, places, marks) {
             return false;
         }
-        j += 1;
     }
     true
 }
@@ -248,6 +225,7 @@ fn threads_are_sound(t: &[u8], q: &[u8], n: usize, m: usize, current: u64) -> bo
     requires m_value { (m ≡ slice_index (words q.now) 0) × (m ≤ 127) }
     ensures { Tells result (SoundThreads (words t.now) (words q.now) current) }
 {
+    // No `&&`, as in thread_fits: later calls ask for what earlier tests told.
     let mut places = [0usize; NOTES];
     if !ids_rise(t, n, &mut places) {
         return false;
@@ -271,6 +249,7 @@ fn tables_are_sound(t: &[u8], q: &[u8], current: u64) -> bool
     requires q_len { length q.now ≡ 1_024 }
     ensures { Tells result (SoundTables (words t.now) (words q.now) current) }
 {
+    // No `&&`, as in thread_fits: what is read later lies within for what was tested.
     let n = carv_area::get(t, 0) as usize;
     if n > area::PLACES {
         return false;
@@ -300,13 +279,10 @@ fn exits_are_sound(x: &[u8]) -> bool
     if !carv_area::zero_from(x, n * exits::ROW + exits::THREAD) {
         return false;
     }
-    let mut i = 0;
-    while i < n {
-        let cause = carv_area::get(x, i * exits::ROW + exits::CAUSE);
-        if !killing::is_cause(cause) {
+    for i in 0..n {
+        if !Cause::is_listed(carv_area::get(x, i * exits::ROW + exits::CAUSE)) {
             return false;
         }
-        i += 1;
     }
     true
 }
@@ -317,20 +293,18 @@ fn parts_are_sound(area: &[u8]) -> bool
     ensures { Tells result (SoundParts area.now) }
 {
     let current = area::current(area);
-    if !tables_are_sound(
+    tables_are_sound(
         &area[area::THREADS..area::QUEUE],
         &area[area::QUEUE..area::EXITS],
         current,
-    ) {
-        return false;
-    }
-    exits_are_sound(&area[area::EXITS..area::BYTES])
+    ) && exits_are_sound(&area[area::EXITS..area::BYTES])
 }
 
 // Question 1.
 pub fn is_sound(area: &[u8]) -> bool
     ensures { result ≡ sound_area area.now }
 {
+    // No `&&`, as in thread_fits: the parts are there for what the length told.
     if area.len() != area::BYTES {
         return false;
     }

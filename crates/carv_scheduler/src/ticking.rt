@@ -4,17 +4,17 @@ ghost use Rattle.carv_area.specs.Table.{pick};
 ghost use Rattle.carv_area.specs.Lookup.{Here};
 ghost use Rattle.carv_objects_spec.specs.Registry.{charge_most};
 ghost use Rattle.carv_scheduler_spec.specs.Scheduler.{blocked, is, is_due, with_registry, wake, wake_all, tick};
+ghost use Rattle.carv_scheduler.specs.Answer.{nothing};
 ghost use Rattle.carv_scheduler.specs.Area.{decode, sound_area, Is, Serves};
 ghost use Rattle.carv_scheduler.specs.Laws.Rows.{no_row};
 ghost use Rattle.carv_scheduler.specs.Laws.Formed.{WellFormed, Leaves};
 ghost use Rattle.carv_scheduler.specs.Laws.Waking.{wake_place};
 ghost use Rattle.carv_scheduler.specs.Laws.Ticking.{accounted};
 
-use crate::numbers::{BLOCKED, LAST_TICK, SLEEP, TICK};
-use crate::{Answer, area, rows};
-use carv_area::Found;
-use carv_objects::refused;
-use carv_scheduler_spec::Results;
+use crate::numbers::{LAST_TICK, TICK};
+use crate::{area, rows};
+use carv_objects::Refusal;
+use carv_scheduler_spec::{Results, State, Wait};
 
 // The budget id, if it is live, is charged a tick, or all that is left.
 fn charge(a: &mut [u8], id: u64, time: u64)
@@ -35,18 +35,16 @@ fn wake_thread(a: &mut [u8], i: usize, id: u64, results: Results)
 }
 
 // Wakes the thread id with these results.
-pub fn wake(a: &mut [u8], id: u64, results: Results) -> Answer
+pub fn wake(a: &mut [u8], id: u64, results: Results) -> Result<(), Refusal>
     requires { sound_area a.old ≡ true }
-    ensures { Serves (wake id results) a.old result a.new }
+    ensures { Serves (wake id results) nothing a.old result a.new }
 {
-    let Found::At(i) = area::find_thread(a, id) else {
-        return Answer::Refused(refused::MISSING);
-    };
-    if area::thread_word(a, i, area::STATE) != BLOCKED {
-        return Answer::Refused(refused::STATE);
+    let i = area::find_thread(a, id).ok_or(Refusal::Missing)?;
+    if !matches!(area::state_at(a, i), State::Blocked(_)) {
+        return Err(Refusal::State);
     }
     wake_thread(a, i, id, results);
-    Answer::Done
+    Ok(())
 }
 
 // Is the thread at place i a sleeper that is due at tick n?
@@ -55,16 +53,10 @@ fn is_due(a: &[u8], i: usize, n: u64) -> bool
     requires i_in_bounds { i < length (decode a.now).threads }
     ensures { result ≡ is_due n (slice_index_or (decode a.now).threads i no_row).it }
 {
-    if area::thread_word(a, i, area::STATE) != BLOCKED {
-        return false;
+    match area::state_at(a, i) {
+        State::Blocked(Wait::Sleep(at)) => at <= n,
+        _ => false,
     }
-    if area::thread_word(a, i, area::WAIT) != SLEEP {
-        return false;
-    }
-    if area::thread_word(a, i, area::WAIT_NUMBER) > n {
-        return false;
-    }
-    true
 }
 
 // The thread at place i wakes, if it is a sleeper that is due at tick n.
@@ -85,11 +77,8 @@ fn wake_sleepers(a: &mut [u8], n: u64)
     requires { sound_area a.old ≡ true }
     ensures { Is a.new (wake_all (pick (is_due n) (decode a.old).threads) (decode a.old)) }
 {
-    let m = area::thread_count(a);
-    let mut i = 0;
-    while i < m {
+    for i in 0..area::thread_count(a) {
         wake_at(a, i, n);
-        i += 1;
     }
 }
 
@@ -99,27 +88,25 @@ fn account(a: &mut [u8], time: u64)
     ensures { Is a.new (accounted time (decode a.old)) }
 {
     let id = area::current(a);
-    let Found::At(i) = area::find_thread(a, id) else {
+    let Some(i) = area::find_thread(a, id) else {
         return;
     };
-    let is = area::thread_word(a, i, area::BUDGET);
-    let budget = area::thread_word(a, i, area::BUDGET_ID);
+    let payer = area::budget_at(a, i);
     area::add_tick(a, i);
-    if is == 0 {
-        return;
+    if let Some(budget) = payer {
+        charge(a, budget, time)
     }
-    charge(a, budget, time)
 }
 
 // Tick n.
-pub fn tick(a: &mut [u8], n: u64) -> Answer
+pub fn tick(a: &mut [u8], n: u64) -> Result<(), Refusal>
     requires { sound_area a.old ≡ true }
-    ensures { Serves (tick n) a.old result a.new }
+    ensures { Serves (tick n) nothing a.old result a.new }
 {
     if n > LAST_TICK {
-        return Answer::Refused(refused::TICK);
+        return Err(Refusal::Tick);
     }
     account(a, n * TICK);
     wake_sleepers(a, n);
-    Answer::Done
+    Ok(())
 }

@@ -3,6 +3,8 @@
 -- panic, written out. Following, History, Demand3: the book follows the board, so its figures are the lines and its choice runs; Sentences says it sentence by sentence.
 -- Overspending: no period is overspent, P3; Noted: its ledger notes what the book takes; LedgerCases: histories that spend all, and that overspend, written out.
 -- Added, Limits, Edges, Unsound: which refusals are added, codes and limits, document 01's cases, and what is not sound, written out. The others serve these.
+pub mod Codes
+pub mod Equal
 pub mod SoundFacts
 pub mod Reading
 pub mod SoundLaws

@@ -1,10 +1,10 @@
 -- Document 01's book: what demand 3's figures and plannings are worked from. It is fed each call's arguments and its refusal number (0: accepted), and never sees the
 -- board. carv_objects_spec/specs/Book.antt is its half for the registry. Assumes nothing.
-use Rattle.std.specs.Prelude.{Bool, true, false, cond, not, ◌&&◌, List, [], ◌∷◌, ℕ, ◌*◌, min, eqb, ltb, leb}
-use Rattle.std.proofs.Math.Option.{Option, none, some}
+use Rattle.std.specs.Prelude.{Bool, true, false, cond, not, ◌&&◌, List, [], ◌∷◌, ℕ, ◌*◌, min, eqb, ltb, leb, Option, Some, None}
 use Rattle.carv_area.specs.Table.{Row, at, alter, put, pick}
 use Rattle.carv_objects_spec.specs.Book as objects
 use Rattle.carv_scheduler_spec.specs.declared.Wait.{Wait}
+use Rattle.carv_scheduler_spec.specs.declared.Wait.TheVariants as waits
 use Rattle.carv_scheduler_spec.specs.declared.Context.{Context}
 use Rattle.carv_scheduler_spec.specs.declared.Results.{Results}
 use Rattle.carv_scheduler_spec.specs.Scheduler.{idle, tick_ns, wait, join, without}
@@ -25,8 +25,8 @@ pub record Book : Type 0 where
 -- Reading.
 
 abbrev pub or_none : Option Thread → Thread
-or_none none = record { budget = none; wait = none }
-or_none (some t) = t
+or_none None = record { budget = None; wait = None }
+or_none (Some t) = t
 
 abbrev pub thread : List (Row Thread) → ℕ → Thread
 thread m i = or_none (at m i)
@@ -36,23 +36,23 @@ waiting w t = record { budget = t.budget; wait = w }
 
 -- a sleeper due at or before tick n
 abbrev pub is_due : ℕ → Option Wait → Bool
-is_due n none = false
-is_due n (some w) = eqb w.kind 5 && leb w.number n
+is_due n (Some (waits.Sleep at)) = leb at n
+is_due n _ = false
 
 -- A thread's live budget: "renewing at its tick each thread's live budget"; "time left: no budget, or a live one whose fourth figure is above 0"; "a tick renews the
 -- current thread's live budget, then books the smaller of 1,000,000 and the fourth figure".
 
 abbrev pub renew_for : (time : ℕ) → Option ℕ → objects.Book → objects.Book
-renew_for time none k = k
-renew_for time (some c) k = cond (objects.is_live k c) (objects.on_budget c (objects.renew time) k) k
+renew_for time None k = k
+renew_for time (Some c) k = cond (objects.is_live k c) (objects.on_budget c (objects.renew time) k) k
 
 abbrev pub has_time : Option ℕ → objects.Book → Bool
-has_time none k = true
-has_time (some c) k = objects.is_live k c && ltb 0 (objects.cpu_left (objects.budget_of k c))
+has_time None k = true
+has_time (Some c) k = objects.is_live k c && ltb 0 (objects.cpu_left (objects.budget_of k c))
 
 abbrev pub tick_for : (time : ℕ) → Option ℕ → objects.Book → objects.Book
-tick_for time none k = k
-tick_for time (some c) k =
+tick_for time None k = k
+tick_for time (Some c) k =
     cond (objects.is_live k c)
     (objects.on_budget c (λ b. objects.take_cpu (min tick_ns (objects.cpu_left (objects.renew time b))) (objects.renew time b)) k)
     k
@@ -64,7 +64,7 @@ with_objects k b = record { objects = k; threads = b.threads; queue = b.queue; c
 
 -- "threads started, woken or put back join the queue's end"
 abbrev pub woken : ℕ → Book → Book
-woken i b = record { objects = b.objects; threads = alter i (waiting none) b.threads; queue = join b.queue i; current = b.current; runs = b.runs }
+woken i b = record { objects = b.objects; threads = alter i (waiting None) b.threads; queue = join b.queue i; current = b.current; runs = b.runs }
 
 abbrev pub wake_all : List ℕ → Book → Book
 wake_all [] b = b
@@ -116,7 +116,7 @@ abbrev pub accepted : Call → Book → Book
 accepted (on_objects c) b = b
 accepted (create_user_thread i budget stack) b = record {
   objects = b.objects;
-  threads = put i (record { budget = some budget; wait = none }) b.threads;
+  threads = put i (record { budget = Some budget; wait = None }) b.threads;
   queue = b.queue;
   current = b.current;
   runs = b.runs;
@@ -125,7 +125,7 @@ accepted (start i space cspace root context) b = record { objects = b.objects; t
 -- "blocked or killed, they stop running"
 accepted (block_current kind number) b = record {
   objects = b.objects;
-  threads = alter b.current (waiting (some (wait kind number))) b.threads;
+  threads = alter b.current (waiting (Some (wait kind number))) b.threads;
   queue = b.queue;
   current = b.current;
   runs = false;
@@ -135,7 +135,7 @@ accepted (is_blocked_on i kind number) b = b
 -- "killed, they leave queue and wait"
 accepted (kill i cause) b = record {
   objects = b.objects;
-  threads = alter i (waiting none) b.threads;
+  threads = alter i (waiting None) b.threads;
   queue = without i b.queue;
   current = b.current;
   runs = cond (eqb i b.current) false b.runs;
@@ -172,7 +172,7 @@ write (exit_of i) number b = b
 abbrev pub opening : (cpu memory : ℕ) → Book
 opening cpu memory = record {
   objects = objects.opening cpu memory;
-  threads = record { id = 0; it = record { budget = none; wait = none } } ∷ record { id = idle; it = record { budget = none; wait = none } } ∷ [];
+  threads = record { id = 0; it = record { budget = None; wait = None } } ∷ record { id = idle; it = record { budget = None; wait = None } } ∷ [];
   queue = [];
   current = 0;
   runs = true;

@@ -1,7 +1,6 @@
 -- What demand 2 is said with: what the Rust replies to a call, what of a reply is compared with it, which refusals are added, and the replies to a list of calls on both
 -- sides. Assumes nothing.
-use Rattle.std.specs.Prelude.{◌≡◌, Bool, true, false, cond, List, [], ◌∷◌, ℕ}
-use Rattle.std.proofs.Math.Option.{none, some}
+use Rattle.std.specs.Prelude.{◌≡◌, Bool, true, false, cond, List, [], ◌∷◌, ℕ, Some, None}
 use Rattle.carv_objects_spec.specs.Reply.{accept, without_answer}
 use Rattle.carv_objects_spec.specs.Demand2 as objects
 use Rattle.carv_scheduler_spec.specs.Scheduler.{Board, BoardReply, is_blocked, record_of, word, exit_cause}
@@ -16,16 +15,16 @@ abbrev pub rust_run : Call → Board → BoardReply
 rust_run (on_objects c) b = objects_reply_of (objects.rust_run c b.registry) b
 rust_run (create_user_thread i budget stack) b = creation_reply_of (rust.create_user_thread i budget stack b)
 rust_run (start i space cspace root context) b = said_reply_of (there (rust.thread i b)) (rust.start i space cspace root context b)
-rust_run (block_current kind number) b = accept none (rust.block_current (rust.wait kind number) b)
+rust_run (block_current kind number) b = accept None (rust.block_current (rust.wait kind number) b)
 rust_run (wake i r) b = said_reply_of (there (rust.thread i b)) (rust.wake i r b)
-rust_run (is_blocked_on i kind number) b = accept (some (is_blocked (rust.is_blocked_on i (rust.wait kind number) b))) b
-rust_run (kill i cause) b = kill_reply_of (there (rust.thread i b)) (rust.kill i cause b)
-rust_run (tick n) b = accept none (rust.tick n b)
+rust_run (is_blocked_on i kind number) b = accept (Some (is_blocked (rust.is_blocked_on i (rust.wait kind number) b))) b
+rust_run (kill i cause) b = kill_reply_of (there (rust.thread i b)) (rust.kill i (rust.cause cause) b)
+rust_run (tick n) b = accept None (rust.tick n b)
 rust_run (plan n) b = plan_reply_of (rust.plan n b)
 rust_run (read_thread i) b = reading_of record_of (rust.thread i b) b
-rust_run read_current b = accept (some (word b.current)) b
-rust_run read_switches b = accept (some (word b.switches)) b
-rust_run (exit_of i) b = accept (some (exit_cause (rust.exit_of i b))) b
+rust_run read_current b = accept (Some (word b.current)) b
+rust_run read_switches b = accept (Some (word b.switches)) b
+rust_run (exit_of i) b = accept (Some (exit_cause (rust.exit_of i b))) b
 
 -- has the Rust a method for it? carv_objects_spec's Demand2.antt has P1's sentence on answers that the Rust lacks
 abbrev pub in_rust : Call → Bool

@@ -1,8 +1,7 @@
 -- Demand 3 as it is said of the definitions: for every list of calls on one board from an accepted opening, each live budget's line is the book's four figures; two lists leave a
 -- budget equal lines exactly when these agree; each accepted planning runs the thread ready longest among those with time left. P1's totals are those of the book's figures.
 -- Assumes nothing.
-use Rattle.std.specs.Prelude.{◌≡◌, Bool, true, false, List, ◌∷◌, ◌++◌, ℕ, ◌*◌, ◌≤◌}
-use Rattle.std.proofs.Math.Option.{some}
+use Rattle.std.specs.Prelude.{◌≡◌, Bool, true, false, List, ◌∷◌, ◌++◌, ℕ, ◌*◌, ◌≤◌, Some}
 use Rattle.carv_budget.specs.Account.{period}
 use Rattle.carv_objects_spec.specs.Registry.{is_budget, account_of}
 use Rattle.carv_objects_spec.specs.Book.{Figures, Differences, figures, is_live, budget_of}
@@ -53,10 +52,10 @@ pub record Planned (n : ℕ) (k : Book) (a : BoardReply) : Type 0 where
   pub none_left : a.after.current ≡ idle → NoneLeft (time_left (n * tick_ns) k) (put_back k)
   pub idle_runs : NoneLeft (time_left (n * tick_ns) k) (put_back k) → a.after.current ≡ idle
   -- "no switch" exactly when the one run was current already, else a switch from the old id to the new, with the new one's root
-  pub stays : a.after.current ≡ k.current → a.value ≡ some no_switch
-  pub stayed : a.value ≡ some no_switch → a.after.current ≡ k.current
+  pub stays : a.after.current ≡ k.current → a.value ≡ Some no_switch
+  pub stayed : a.value ≡ Some no_switch → a.after.current ≡ k.current
   pub switches : (a.after.current ≡ k.current → ⊥)
-      → a.value ≡ some (switch k.current a.after.current (root_of (thread a.after.threads a.after.current)))
+      → a.value ≡ Some (switch k.current a.after.current (root_of (thread a.after.threads a.after.current)))
 
 pub record Demand3 (cs : List Call) (cpu memory : ℕ) : Type 0 where
   -- the budgets live by the book are the board's, and the line of each is the book's figures

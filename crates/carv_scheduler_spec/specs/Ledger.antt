@@ -1,7 +1,6 @@
 -- P3's ledger for the board's calls, its clock, and what is said of a budget. carv_objects_spec/specs/Ledger.antt is its half for the registry: the ledger itself, and what is summed of it. Like the book
 -- it is fed each call's arguments and its refusal number (0: accepted). Assumes nothing.
-use Rattle.std.specs.Prelude.{◌≡◌, cond, ◌||◌, List, [], ◌∷◌, map, ℕ, ◌*◌, ◌≤◌, min, eqb}
-use Rattle.std.proofs.Math.Option.{Option, none, some}
+use Rattle.std.specs.Prelude.{◌≡◌, cond, ◌||◌, List, [], ◌∷◌, map, ℕ, ◌*◌, ◌≤◌, min, eqb, Option, Some, None}
 use Rattle.carv_area.specs.Table.{at}
 use Rattle.carv_objects_spec.specs.Registry.{Registry, payer_of, account_of}
 use Rattle.carv_objects_spec.specs.Within.{within}
@@ -16,8 +15,8 @@ use Rattle.carv_scheduler_spec.specs.Runs.{Numbered, numbers}
 
 -- "a tick renews the current thread's live budget, then books the smaller of 1,000,000 and the fourth figure"
 abbrev pub note_tick : (time : ℕ) → (budget : Option ℕ) → objects.Book → Ledger → Ledger
-note_tick time none k l = l
-note_tick time (some i) k l = cond (is_live k i) (note_charge i (min tick_ns (cpu_left (renew time (budget_of k i)))) time l) l
+note_tick time None k l = l
+note_tick time (Some i) k l = cond (is_live k i) (note_charge i (min tick_ns (cpu_left (renew time (budget_of k i)))) time l) l
 
 -- what a call writes, k being the book just before it: those of the registry, and an accepted tick
 abbrev pub note : Call → (number : ℕ) → Book → Ledger → Ledger
@@ -53,22 +52,22 @@ ledger_after cs cpu memory = ledger_from (numbers cs (opening cpu memory)) cpu m
 -- the clock value of a call: its time in ns, or its tick's; most calls have none. A sleep's tick is none
 abbrev pub clock : Call → Option ℕ
 clock (on_objects c) = objects_ledger.clock c
-clock (create_user_thread i budget stack) = none
-clock (start i space cspace root context) = none
-clock (block_current kind number) = none
-clock (wake i r) = none
-clock (is_blocked_on i kind number) = none
-clock (kill i cause) = none
-clock (tick n) = some (n * tick_ns)
-clock (plan n) = some (n * tick_ns)
-clock (read_thread i) = none
-clock read_current = none
-clock read_switches = none
-clock (exit_of i) = none
+clock (create_user_thread i budget stack) = None
+clock (start i space cspace root context) = None
+clock (block_current kind number) = None
+clock (wake i r) = None
+clock (is_blocked_on i kind number) = None
+clock (kill i cause) = None
+clock (tick n) = Some (n * tick_ns)
+clock (plan n) = Some (n * tick_ns)
+clock (read_thread i) = None
+clock read_current = None
+clock read_switches = None
+clock (exit_of i) = None
 
 -- the clock value of a call that is accepted, or refused with 12: no other call moves the board
 abbrev pub moving_clock : Numbered → Option ℕ
-moving_clock n = cond (eqb n.number 0 || eqb n.number 12) (clock n.call) none
+moving_clock n = cond (eqb n.number 0 || eqb n.number 12) (clock n.call) None
 
 -- 02's "clock values that never fall over the whole history", all calls of it, refused ones included
 abbrev pub ClockNeverFalls : List Numbered → Type 0
@@ -83,6 +82,6 @@ pub record EverLive (r : Registry) (l : Ledger) (i : ℕ) : Type 0 where
   -- "In each [period], the CPU charged to a budget and to all below it .. is at most that budget's allowance."
   pub allowed : (p : ℕ) → spent l p i ≤ (account_of r i).cpu_allowance
   -- the ledger has it, with its payer and its allowance
-  pub listed : at l.budgets i ≡ some (record { parent = payer_of r i; allowance = (account_of r i).cpu_allowance })
+  pub listed : at l.budgets i ≡ Some (record { parent = payer_of r i; allowance = (account_of r i).cpu_allowance })
   -- and under the budgets that it is within by P1's "going from payer to payer up to the root"
   pub below : (b : ℕ) → under l.budgets b i ≡ within r b i

@@ -12,4 +12,5 @@ pub mod Demand1
 pub mod Demand2
 pub mod Demand3
 pub mod Panics
+pub mod Codes
 pub mod Killed

@@ -1,10 +1,10 @@
--- Document 01's soundness of a board: a test that computes. proofs/Laws/SoundFacts.antt has the same as a record of facts. Assumes nothing.
-use Rattle.std.specs.Prelude.{Bool, true, false, cond, not, ◌&&◌, ◌||◌, List, [], ◌∷◌, ℕ, ◌^◌, eqb, leb, length}
+-- Document 01's soundness of a board: a test that computes. proofs/Laws/SoundFacts.antt has the same as a record of facts. "Every code is a listed one" is asked of
+-- the stored words: Codes.antt has that test. Assumes nothing.
+use Rattle.std.specs.Prelude.{Bool, true, false, not, ◌&&◌, ◌||◌, List, [], ◌∷◌, ℕ, ◌^◌, eqb, leb, length, is_none}
 use Rattle.carv_objects_spec.specs.Sound as objects
 use Rattle.carv_objects_spec.specs.Sound.{all, every, rises}
 use Rattle.carv_scheduler_spec.specs.declared.Thread.{Thread}
-use Rattle.carv_scheduler_spec.specs.declared.Exit.{Exit}
-use Rattle.carv_scheduler_spec.specs.Scheduler.{Board, idle, inactive, ready, running, blocked, dead, is, wait_listed, cause_listed, most_exits, most_threads, thread, has}
+use Rattle.carv_scheduler_spec.specs.Scheduler.{Board, idle, inactive, ready, running, dead, is, most_exits, most_threads, thread, has}
 
 abbrev pub member : ℕ → List ℕ → Bool
 member i [] = false
@@ -32,22 +32,13 @@ unpaid i = eqb i 0 || eqb i idle
 -- what is asked of thread i, t, of a board b
 abbrev pub thread_tests : Board → ℕ → Thread → List Bool
 thread_tests b i t =
-    -- "every code is a listed one": the state, a blocked thread's wait, and whether there is a budget and a space; what is not there is 0
-    (leb 1 t.state && leb t.state 5)
-    ∷ cond (is blocked t) (wait_listed t.wait.kind) (eqb t.wait.kind 0 && eqb t.wait.number 0)
-    ∷ cond (eqb t.budget.is 0) (eqb t.budget.id 0) (eqb t.budget.is 1)
-    ∷ cond (eqb t.spaces.is 0) (eqb t.spaces.space 0 && (eqb t.spaces.cspace 0 && eqb t.spaces.root 0)) (eqb t.spaces.is 1)
     -- "queue ids .. are exactly the Ready threads other than idle": the Ready ones are in the queue
-    ∷ implies (is ready t) (eqb i idle || member i b.queue)
+    implies (is ready t) (eqb i idle || member i b.queue)
     -- "only the current thread is Dead, only it or idle Running"
     ∷ implies (is dead t) (eqb i b.current)
     ∷ implies (is running t) (eqb i idle || eqb i b.current)
     -- "thread 0 and idle, and no others, have no budget"
-    ∷ same (eqb t.budget.is 0) (unpaid i) ∷ []
-
--- "every code is a listed one": the cause of a logged exit
-abbrev pub sound_exit : Exit → Bool
-sound_exit e = cause_listed e.cause
+    ∷ same (is_none t.budget) (unpaid i) ∷ []
 
 -- what is asked of a board
 abbrev pub board_tests : Board → List Bool
@@ -67,9 +58,8 @@ board_tests b =
     ∷ has b.threads idle
     ∷ (is ready (thread b.threads idle) || is running (thread b.threads idle))
     ∷ implies (eqb b.current idle) (is running (thread b.threads idle))
-    -- "at most 32 exits", each with a listed cause
-    ∷ leb (length b.exits) most_exits
-    ∷ each sound_exit b.exits ∷ []
+    -- "at most 32 exits"
+    ∷ leb (length b.exits) most_exits ∷ []
 
 abbrev pub sound : Board → Bool
 sound b = all (board_tests b)

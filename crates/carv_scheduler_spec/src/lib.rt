@@ -1,33 +1,167 @@
 // What a board holds beside the registry: thread records and logged ends. The definitions of every call on it, and the theorems on
 // them, stand in specs/; carv_scheduler has the code. After kernel/src/scheduler.rs.
-
-// What a blocked thread waits for: kind 1 Send, 2 Recv, 3 Reply, 4 Notification, 5 Sleep; 0 where it waits for nothing.
 #![tactic(auto)]
 
-#[derive(Clone, Copy)]
-pub struct Wait {
-    pub kind: u64,
-    pub number: u64,
+ghost use Rattle.std.specs.Prelude.{◌≡◌};
+ghost use Rattle.carv_scheduler_spec.specs.Scheduler.{wait_listed, wait, kind_of, number_of, wait_in, cause_listed, cause_of};
+ghost use Rattle.carv_scheduler_spec.specs.Codes.{is_word, state_word, kind_word, number_word, cause_word, NamedWait, NamedCause};
+
+// What a blocked thread waits for.
+#[derive(Clone, Copy, Debug, PartialEq, Eq)]
+pub enum Wait {
+    // A receiver on this endpoint.
+    Send(u64),
+    // A sender on this endpoint.
+    Recv(u64),
+    // The reply from this server thread.
+    Reply(u64),
+    // A signal on this notification.
+    Notification(u64),
+    // The tick to reach.
+    Sleep(u64),
 }
 
-// A budget id, or none where is = 0.
-#[derive(Clone, Copy)]
-pub struct BudgetId {
-    pub is: u64,
-    pub id: u64,
+impl Wait {
+    // Is it the code of a kind?
+    pub fn is_listed(kind: u64) -> bool
+        ensures { result ≡ wait_listed kind }
+    {
+        matches!(kind, 1..=5)
+    }
+
+    // The wait of the kind that a code names, with this number.
+    pub fn from_code(kind: u64, number: u64) -> Option<Wait>
+        ensures { NamedWait kind number result }
+    {
+        match kind {
+            1 => Some(Wait::Send(number)),
+            2 => Some(Wait::Recv(number)),
+            3 => Some(Wait::Reply(number)),
+            4 => Some(Wait::Notification(number)),
+            5 => Some(Wait::Sleep(number)),
+            _ => None,
+        }
+    }
+
+    // The same of a code that is known to be listed. Another reads as a sleep.
+    pub fn of_code(kind: u64, number: u64) -> Wait
+        ensures { result ≡ wait kind number }
+    {
+        Wait::from_code(kind, number).unwrap_or(Wait::Sleep(number))
+    }
+
+    // The code of its kind.
+    pub fn kind(self) -> u64
+        ensures { result ≡ kind_of self }
+    {
+        match self {
+            Wait::Send(_) => 1,
+            Wait::Recv(_) => 2,
+            Wait::Reply(_) => 3,
+            Wait::Notification(_) => 4,
+            Wait::Sleep(_) => 5,
+        }
+    }
+
+    pub fn number(self) -> u64
+        ensures { result ≡ number_of self }
+    {
+        match self {
+            Wait::Send(number)
+            | Wait::Recv(number)
+            | Wait::Reply(number)
+            | Wait::Notification(number)
+            | Wait::Sleep(number) => number,
+        }
+    }
 }
 
-// Where a started thread runs: address space, capability space and page-table root; none where is = 0.
-#[derive(Clone, Copy)]
+#[derive(Clone, Copy, Debug, PartialEq, Eq)]
+pub enum State {
+    // Created but not started.
+    Inactive,
+    // In the ready queue, or idle.
+    Ready,
+    // On the CPU.
+    Running,
+    Blocked(Wait),
+    // Killed while it was current; it goes once another thread runs.
+    Dead,
+}
+
+impl State {
+    // The code of each state.
+    pub const INACTIVE: u64 = 1;
+
+    pub const READY: u64 = 2;
+
+    pub const RUNNING: u64 = 3;
+
+    pub const BLOCKED: u64 = 4;
+
+    pub const DEAD: u64 = 5;
+
+    pub fn code(self) -> u64
+        ensures { result ≡ state_word self }
+    {
+        match self {
+            State::Inactive => State::INACTIVE,
+            State::Ready => State::READY,
+            State::Running => State::RUNNING,
+            State::Blocked(_) => State::BLOCKED,
+            State::Dead => State::DEAD,
+        }
+    }
+
+    // The wait of a Blocked thread.
+    pub fn wait(self) -> Option<Wait>
+        ensures { result ≡ wait_in self }
+    {
+        match self {
+            State::Blocked(wait) => Some(wait),
+            _ => None,
+        }
+    }
+
+    // The code and the number of its wait, or 0 and 0.
+    pub fn wait_kind(self) -> u64
+        ensures { result ≡ kind_word self }
+    {
+        match self {
+            State::Blocked(wait) => wait.kind(),
+            _ => 0,
+        }
+    }
+
+    pub fn wait_number(self) -> u64
+        ensures { result ≡ number_word self }
+    {
+        match self {
+            State::Blocked(wait) => wait.number(),
+            _ => 0,
+        }
+    }
+}
+
+// Where a started thread runs: address space, capability space and page-table root.
+#[derive(Clone, Copy, Debug, PartialEq, Eq)]
 pub struct Spaces {
-    pub is: u64,
     pub space: u64,
     pub cspace: u64,
     pub root: u64,
 }
 
+impl Spaces {
+    // What is stored and told of a thread that has none.
+    pub const NONE: Spaces = Spaces {
+        space: 0,
+        cspace: 0,
+        root: 0,
+    };
+}
+
 // The seven words of UserContext.
-#[derive(Clone, Copy)]
+#[derive(Clone, Copy, Debug, PartialEq, Eq)]
 pub struct Context {
     pub rip: u64,
     pub rsp: u64,
@@ -39,28 +173,77 @@ pub struct Context {
 }
 
 // The three result words that a blocked system call completes with.
-#[derive(Clone, Copy)]
+#[derive(Clone, Copy, Debug, PartialEq, Eq)]
 pub struct Results {
     pub first: u64,
     pub second: u64,
     pub third: u64,
 }
 
-// A thread record. State: 1 Inactive, 2 Ready, 3 Running, 4 Blocked, 5 Dead.
-#[derive(Clone, Copy)]
+// A thread record. The budget is an id, and the ticks are those that it ran for.
+#[derive(Clone, Copy, Debug, PartialEq, Eq)]
 pub struct Thread {
-    pub state: u64,
-    pub wait: Wait,
-    pub budget: BudgetId,
-    pub spaces: Spaces,
+    pub state: State,
+    pub budget: Option<u64>,
+    pub spaces: Option<Spaces>,
     pub context: Context,
     pub results: Results,
     pub ticks: u64,
 }
 
-// A thread's end. Cause: 1 Destroyed, 2 Faulted.
-#[derive(Clone, Copy)]
+// The word that says whether it is there.
+pub fn is_word<T: Copy>(o: Option<T>) -> u64
+    ensures { result ≡ is_word o }
+{
+    match o {
+        None => 0,
+        Some(_) => 1,
+    }
+}
+
+// Why a thread ended. The numbers are document 01's.
+#[derive(Clone, Copy, Debug, PartialEq, Eq)]
+pub enum Cause {
+    Destroyed = 1,
+    Faulted = 2,
+}
+
+impl Cause {
+    // Is it the code of a cause?
+    pub fn is_listed(n: u64) -> bool
+        ensures { result ≡ cause_listed n }
+    {
+        matches!(n, 1..=2)
+    }
+
+    // The cause that a code names.
+    pub fn from_code(n: u64) -> Option<Cause>
+        ensures { NamedCause n result }
+    {
+        match n {
+            1 => Some(Cause::Destroyed),
+            2 => Some(Cause::Faulted),
+            _ => None,
+        }
+    }
+
+    // The same of a code that is known to be listed. Another reads as the last cause.
+    pub fn of_code(n: u64) -> Cause
+        ensures { result ≡ cause_of n }
+    {
+        Cause::from_code(n).unwrap_or(Cause::Faulted)
+    }
+
+    pub fn code(self) -> u64
+        ensures { result ≡ cause_word self }
+    {
+        self as u64
+    }
+}
+
+// A thread's end.
+#[derive(Clone, Copy, Debug, PartialEq, Eq)]
 pub struct Exit {
     pub thread: u64,
-    pub cause: u64,
+    pub cause: Cause,
 }

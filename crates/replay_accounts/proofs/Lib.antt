@@ -1,2 +1,2 @@
--- What the proofs share.
-pub mod Rules
+-- What the proofs give: Records, that the replay of records is told by `Differ`.
+pub mod Records

@@ -3,12 +3,15 @@ use Rattle.std.specs.Prelude.{Bool, true, false, List, ◌≡◌, refl, ℕ, ◌
 use Rattle.std.proofs.Common.{add-one, arith, eqb-true, eq-eqb, ne_eqb}
 use Rattle.carv_budget.specs.declared.Account.{Account}
 use Rattle.carv_budget.specs.declared.Outcome.{Outcome}
-use Rattle.carv_budget.specs.Account.{number, blank, with_memory}
+use Rattle.carv_budget.specs.Account.{number_of, blank, with_memory}
 use Rattle.carv_budget.proofs.Laws.Account.{both, first, second}
 use Rattle.replay_accounts.specs.declared.record.Call.{Call}
 use Rattle.replay_accounts.specs.declared.record.Reply.{Reply}
 use Rattle.replay_accounts.specs.Record.{call, reply}
-use Rattle.replay_accounts.specs.Replay.{left, same, same_reply, gives, agrees, differing}
+use Rattle.replay_accounts.specs.declared.record.Op.{Op}
+use Rattle.replay_accounts.specs.declared.record.Op.TheVariants.{OpenAccount, Refill, ChargeCpu, ChargeMemory, ReleaseMemory, CarveOut, ReleaseChild}
+use Rattle.replay_accounts.specs.Op.{op_number}
+use Rattle.replay_accounts.specs.Replay.{left, made, same, same_reply, gives, agrees, differing}
 
 -- accounts whose figures are equal
 pub all_equal : (a b : Account) → a.cpu_allowance ≡ b.cpu_allowance → a.memory_limit ≡ b.memory_limit → a.period_start ≡ b.period_start
@@ -50,15 +53,25 @@ unfolding same_reply
 same_reply_shown a b e = rw e (search (both, eq-eqb, same_shown, refl))
 
 -- the child that a return leaves
-pub left_none : (o : Outcome) (child : Account) → number o.answer ≡ 0 → left o child ≡ blank
+pub left_none : (o : Outcome (Unit {0})) (child : Account) → number_of o.answer ≡ 0 → left o child ≡ blank
 left_none o child p = rw (eq-eqb _ _ p)
 
-pub left_kept : (o : Outcome) (child : Account) → (number o.answer ≡ 0 → ⊥) → left o child ≡ child
+pub left_kept : (o : Outcome (Unit {0})) (child : Account) → (number_of o.answer ≡ 0 → ⊥) → left o child ≡ child
 left_kept o child p = rw (ne_eqb _ _ p)
 
--- a call by its op n: x is what was made of it, and b says whether x is r
-pub gives_by : (op n : ℕ) (c : Call) (r x y : Reply) (b : Bool) → op ≡ n → x ≡ y → b ≡ same_reply x r → same_reply y r ≡ gives n c r → b ≡ gives op c r
-gives_by op n c r x y b e f p q = cc
+-- a call by its op, whose number is n: x is what was made of it, and b says whether x is r
+gives_op : (op : Op) (c : Call) (r : Reply) → same_reply (made op c) r ≡ gives (op_number op) c r
+unfolding gives
+gives_op OpenAccount c r = refl
+gives_op Refill c r = refl
+gives_op ChargeCpu c r = refl
+gives_op ChargeMemory c r = refl
+gives_op ReleaseMemory c r = refl
+gives_op CarveOut c r = refl
+gives_op ReleaseChild c r = refl
+
+pub gives_made : (n : ℕ) (op : Op) (c : Call) (x r : Reply) (b : Bool) → op_number op ≡ n → x ≡ made op c → b ≡ same_reply x r → b ≡ gives n c r
+gives_made n op c x r b p q e = rw (← p, ← gives_op op c r, ← q) e
 
 pub gives_none : (op : ℕ) (c : Call) (r : Reply) → (op ≡ 1 → ⊥) → (op ≡ 2 → ⊥) → (op ≡ 3 → ⊥) → (op ≡ 4 → ⊥) → (op ≡ 5 → ⊥) → (op ≡ 6 → ⊥)
     → (op ≡ 7 → ⊥) → false ≡ gives op c r

@@ -1,63 +1,70 @@
 -- What a record's call gives, and how many records say otherwise. Assumes nothing.
-use Rattle.std.specs.Prelude.{◌≡◌, Bool, false, cond, ◌&&◌, List, ℕ, zero, suc, ◌+◌, ◌*◌, eqb}
+use Rattle.std.specs.Prelude.{◌≡◌, Bool, true, false, cond, ◌&&◌, List, ℕ, zero, suc, ◌+◌, ◌*◌, eqb, Result, Ok, Err}
+use Rattle.std.specs.Result.{result_unwrap_or}
 use Rattle.carv_budget.specs.declared.Account.{Account}
-use Rattle.carv_budget.specs.declared.Answer.{Answer}
-use Rattle.carv_budget.specs.declared.Answer.TheVariants.{Done, Renewed, NotDue, Unsound, CpuBudgetExceedsPeriod, MemoryUnderflow, CpuLimitReached, MemoryLimitReached, CpuLimitExceeded, MemoryLimitExceeded, ReservationUnderflow}
+use Rattle.carv_budget.specs.declared.BudgetError.{BudgetError}
 use Rattle.carv_budget.specs.declared.Outcome.{Outcome}
-use Rattle.carv_budget.specs.declared.CarveOut.{CarveOut}
-use Rattle.carv_budget.specs.Account.{number, blank, open_account, refill, charge_cpu, charge_memory, release_memory, carve_out, release_child}
+use Rattle.carv_budget.specs.Account.{number_of, blank, outcome, open_account, refill, charge_cpu, charge_memory, release_memory, carve_out, release_child}
 use Rattle.replay_accounts.specs.declared.record.Call.{Call}
+use Rattle.replay_accounts.specs.declared.record.Op.{Op}
+use Rattle.replay_accounts.specs.declared.record.Op.TheVariants.{OpenAccount, Refill, ChargeCpu, ChargeMemory, ReleaseMemory, CarveOut, ReleaseChild}
 use Rattle.replay_accounts.specs.declared.record.Reply.{Reply}
 use Rattle.replay_accounts.specs.Record.{call, reply}
 
 -- a reply's value: 1 where a renewal was due
-abbrev pub renewal : Answer → ℕ
-renewal Done = 0
-renewal Renewed = 1
-renewal NotDue = 0
-renewal Unsound = 0
-renewal CpuBudgetExceedsPeriod = 0
-renewal MemoryUnderflow = 0
-renewal CpuLimitReached = 0
-renewal MemoryLimitReached = 0
-renewal CpuLimitExceeded = 0
-renewal MemoryLimitExceeded = 0
-renewal ReservationUnderflow = 0
+abbrev pub renewal : Result Bool BudgetError → ℕ
+renewal (Ok true) = 1
+renewal (Ok false) = 0
+renewal (Err e) = 0
 
--- an outcome as a reply, beside the child that the call leaves
-abbrev pub replied : Outcome → Account → Reply
-replied o child = record { number = number o.answer; value = renewal o.answer; account = o.account; child = child }
+-- an outcome as a reply, beside its value and the child that the call leaves
+abbrev pub replied : {T : Type 0} → Outcome T → (value : ℕ) → Account → Reply
+replied o value child = record { number = number_of o.answer; value = value; account = o.account; child = child }
 
--- the same of a carve-out
-abbrev pub carve_replied : CarveOut → Reply
-carve_replied o = record { number = number o.answer; value = 0; account = o.parent; child = o.child }
+-- the account that an opening or a carve-out gives: blank where it is refused
+abbrev pub given : Result Account BudgetError → Account
+given r = result_unwrap_or r blank
 
 -- the child that a return leaves: none, where it is accepted
-abbrev pub left : Outcome → Account → Account
-left o child = cond (eqb (number o.answer) 0) blank child
+abbrev pub left : Outcome (Unit {0}) → Account → Account
+left o child = cond (eqb (number_of o.answer) 0) blank child
 
 -- The calls, by their op.
 
 unfoldable pub opened : Call → Reply
-opened c = replied (open_account c.first c.second c.time) blank
+opened c =
+    let r : Result Account BudgetError = open_account c.first c.second c.time in
+    replied (outcome r (given r)) 0 blank
 
 unfoldable pub refilled : Call → Reply
-refilled c = replied (refill c.account c.time) blank
+refilled c = replied (refill c.account c.time) (renewal (refill c.account c.time).answer) blank
 
 unfoldable pub cpu_charged : Call → Reply
-cpu_charged c = replied (charge_cpu c.account c.first c.time) blank
+cpu_charged c = replied (charge_cpu c.account c.first c.time) 0 blank
 
 unfoldable pub memory_charged : Call → Reply
-memory_charged c = replied (charge_memory c.account c.first) blank
+memory_charged c = replied (charge_memory c.account c.first) 0 blank
 
 unfoldable pub memory_released : Call → Reply
-memory_released c = replied (release_memory c.account c.first) blank
+memory_released c = replied (release_memory c.account c.first) 0 blank
 
 unfoldable pub carved : Call → Reply
-carved c = carve_replied (carve_out c.account c.first c.second c.time)
+carved c =
+    let o : Outcome Account = carve_out c.account c.first c.second c.time in
+    replied o 0 (given o.answer)
 
 unfoldable pub returned : Call → Reply
-returned c = replied (release_child c.account c.child) (left (release_child c.account c.child) c.child)
+returned c = replied (release_child c.account c.child) 0 (left (release_child c.account c.child) c.child)
+
+-- the reply of the call with an op
+abbrev pub made : Op → Call → Reply
+made OpenAccount c = opened c
+made Refill c = refilled c
+made ChargeCpu c = cpu_charged c
+made ChargeMemory c = memory_charged c
+made ReleaseMemory c = memory_released c
+made CarveOut c = carved c
+made ReleaseChild c = returned c
 
 -- the tests of equality
 unfoldable pub same : (a b : Account) → Bool

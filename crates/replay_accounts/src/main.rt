@@ -3,63 +3,36 @@
 // and how many of them differ. specs/Record.antt says what a record holds.
 #![tactic(auto)]
 
-ghost use Rattle.std.specs.Prelude.{◌≡◌, ◌*◌, ◌≤◌, ◌<◌, length};
-ghost use Rattle.replay_records.specs.Tally.{Room, Counted};
-ghost use Rattle.replay_accounts.specs.Replay.{Differ};
+ghost use Rattle.std.specs.Prelude.{◌≡◌};
+ghost use Rattle.std.proofs.Common.{rules};
+ghost use Rattle.replay_accounts.specs.Record.{call, reply};
+ghost use Rattle.replay_accounts.specs.Replay.{agrees};
 
 mod record;
 mod replay;
 
 use record::{call_at, reply_at};
 use replay::matches;
-use replay_records::Tally;
+use replay_records::{Replay, replay_all};
 use std::io;
-use std::io::Read;
-
-const RECORD_WORDS: usize = 34;
 
 const RECORD_BYTES: usize = 272;
 
-// How many of the first n records of buf differ.
-fn differences(buf: &[u8], n: usize) -> u64
-    requires { n * 272 ≤ length buf.now }
-    ensures { Differ buf.now n result × (result ≤ n) }
-{
-    let mut count: u64 = 0;
-    let mut i = 0;
-    while i < n {
-        let at = i * RECORD_WORDS;
-        if !matches(call_at(buf, at), reply_at(buf, at)) {
-            count += 1;
-        }
-        i += 1;
-    }
-    count
-}
+// A call on accounts brings them along, so nothing is kept from record to record.
+#[derive(Clone, Copy, Debug, PartialEq, Eq)]
+struct Accounts;
 
-// Reads and replays a block more.
-fn next_block<R: Read>(input: &mut R, tally: Tally) -> Tally
-    requires { Room tally × (0 < tally.blocks) }
-    ensures counted { Counted 272 Differ tally result }
-    ensures room { Room result × (result.blocks < tally.blocks) }
-{
-    let mut buf = [0; 65_536];
-    let n = replay_records::read_block(input, &mut buf, RECORD_BYTES);
-    let different = differences(&buf, n / RECORD_BYTES);
-    replay_records::add(tally, n, RECORD_BYTES, different)
-}
+impl Replay<RECORD_BYTES> for Accounts {
+    ghost replays = { λ bytes before right after. right ≡ agrees (call bytes 0) (reply bytes 0) };
 
-fn replay_all<R: Read>(input: &mut R) -> Tally {
-    let mut tally = replay_records::start();
-    while tally.blocks > 0 {
-        tally = next_block(input, tally);
+    fn replay(&mut self, bytes: &[u8; RECORD_BYTES]) -> bool {
+        matches(call_at(bytes, 0), reply_at(bytes, 0))
     }
-    tally
+
+    ghost size_fits = { Prim.search rules };
 }
 
 fn main(rt: HostRuntime) -> io::Result<()> {
-    let tally = replay_all(&mut rt.stdin());
-    let calls = tally.calls;
-    let differences = tally.differences;
-    println!(rt; "{calls} calls, {differences} differences")
+    let run = replay_all(&mut rt.stdin(), &mut Accounts);
+    println!(rt; "{}", run.tally)
 }

@@ -5,10 +5,45 @@
 --   word 13       how many answer words the call writes, always the first ones
 --   words 14-33   the answer words
 -- Arguments and answer words without a use are not looked at.
-use Rattle.std.specs.Prelude.{◌≡◌, Bool, true, cond, List, ℕ, ◌+◌, ltb}
+use Rattle.std.specs.Prelude.{◌≡◌, ◌⊎◌, Bool, true, cond, List, Result, MatchResult, ℕ, ◌+◌, ◌<◌, ltb}
 use Rattle.carv_area.specs.Lists.{tab}
 use Rattle.replay_records.specs.Word.{word}
+use Rattle.replay_board.specs.declared.record.Op.{Op}
+use Rattle.replay_board.specs.declared.record.Op.TheVariants.{Open, Create, Insert, CreateBudget, ChargeMore, Uncharge, Remove, Refill, ChargeCpu, PaysForAnything, Account, ChargeOf, CreateUserThread, Start, BlockCurrent, Wake, IsBlockedOn, Kill, Tick, Plan, ReadThread, Current, Switches, ExitOf, Totals}
+use Rattle.replay_board.specs.declared.record.UnlistedOp.{UnlistedOp}
 use Rattle.replay_board.specs.declared.record.Call.{Call}
+
+-- the code of an op in a record
+abbrev pub code : Op → ℕ
+code Open = 1
+code Create = 2
+code Insert = 3
+code CreateBudget = 4
+code ChargeMore = 5
+code Uncharge = 6
+code Remove = 7
+code Refill = 8
+code ChargeCpu = 9
+code PaysForAnything = 10
+code Account = 11
+code ChargeOf = 12
+code CreateUserThread = 13
+code Start = 14
+code BlockCurrent = 15
+code Wake = 16
+code IsBlockedOn = 17
+code Kill = 18
+code Tick = 19
+code Plan = 20
+code ReadThread = 21
+code Current = 22
+code Switches = 23
+code ExitOf = 24
+code Totals = 25
+
+-- the op with this code, or a code that is not listed
+abbrev pub Decodes : ℕ → Result Op UnlistedOp → Type 0
+Decodes n r = MatchResult r (λ op. n ≡ code op) (λ e. (n < 1) ⊎ (25 < n))
 
 -- the call of the record from word number k on
 unfoldable pub call : List ℕ → ℕ → Call

@@ -56,6 +56,10 @@ pub data Agrees (l : List ℕ) (k : ℕ) (a : List ℕ) (b : Bool) (a' : List �
   made : (r : ℕ) (out : List ℕ) → Made (call l k) a (replicate 20 unwritten) r a' out → Tells b ((r ≡ word l (k + 12)) × (out ≡ recorded l k)) → Agrees l k a b a'
   not_listed : ((call l k).op < 1) ⊎ (25 < (call l k).op) → b ≡ false → a' ≡ a → Agrees l k a b a'
 
+-- the same of the record with these bytes
+abbrev pub replays_record : List ℕ → List ℕ → Bool → List ℕ → Type 0
+replays_record bytes a b a' = Agrees bytes 0 a b a'
+
 -- of the first n records of l, replayed from the area a on, d differ, and a' is left
 abbrev pub Replays : (a a' l : List ℕ) (n d : ℕ) → Type 0
 Replays a a' l n d = Replayed (λ k. Agrees l (k * 34)) a n d a'

@@ -1,12 +1,91 @@
 // Reading a record: 34 words of 8 bytes each, the least byte first.
-ghost use Rattle.std.specs.Prelude.{◌≡◌, ◌+◌, ◌*◌, ◌≤◌, ◌<◌, length};
+ghost use Rattle.std.specs.Prelude.{◌≡◌, ◌+◌, ◌<◌};
 ghost use Rattle.replay_records.specs.Word.{word};
-ghost use Rattle.replay_board.specs.Record.{call, recorded_word, recorded, Tells};
+ghost use Rattle.replay_board.specs.Record.{Decodes, call, recorded_word, recorded, Tells};
 
 use carv_area::get;
 
-// The call that a record tells of: its code and its arguments.
-#[derive(Clone, Copy)]
+pub const RECORD_BYTES: usize = 272;
+
+// The words that a call answers in.
+pub const ANSWER_WORDS: usize = 20;
+
+// What each answer word holds before a call.
+pub const UNWRITTEN: u64 = 6_148_914_691_236_517_205;
+
+// The calls. Those of the registry alone have other numbers in the records of replay_objects, from 13 on.
+#[derive(Clone, Copy, Debug, PartialEq, Eq)]
+pub enum Op {
+    Open,
+    Create,
+    Insert,
+    CreateBudget,
+    ChargeMore,
+    Uncharge,
+    Remove,
+    Refill,
+    ChargeCpu,
+    PaysForAnything,
+    Account,
+    ChargeOf,
+    CreateUserThread,
+    Start,
+    BlockCurrent,
+    Wake,
+    IsBlockedOn,
+    Kill,
+    Tick,
+    Plan,
+    ReadThread,
+    Current,
+    Switches,
+    ExitOf,
+    Totals,
+}
+
+// A number that no op has.
+#[derive(Clone, Copy, Debug, PartialEq, Eq)]
+pub struct UnlistedOp(pub u64);
+
+impl TryFrom<u64> for Op {
+    type Error = UnlistedOp;
+
+    ghost try_from_gives = { Decodes };
+
+    fn try_from(number: u64) -> Result<Op, UnlistedOp> {
+        match number {
+            1 => Ok(Op::Open),
+            2 => Ok(Op::Create),
+            3 => Ok(Op::Insert),
+            4 => Ok(Op::CreateBudget),
+            5 => Ok(Op::ChargeMore),
+            6 => Ok(Op::Uncharge),
+            7 => Ok(Op::Remove),
+            8 => Ok(Op::Refill),
+            9 => Ok(Op::ChargeCpu),
+            10 => Ok(Op::PaysForAnything),
+            11 => Ok(Op::Account),
+            12 => Ok(Op::ChargeOf),
+            13 => Ok(Op::CreateUserThread),
+            14 => Ok(Op::Start),
+            15 => Ok(Op::BlockCurrent),
+            16 => Ok(Op::Wake),
+            17 => Ok(Op::IsBlockedOn),
+            18 => Ok(Op::Kill),
+            19 => Ok(Op::Tick),
+            20 => Ok(Op::Plan),
+            21 => Ok(Op::ReadThread),
+            22 => Ok(Op::Current),
+            23 => Ok(Op::Switches),
+            24 => Ok(Op::ExitOf),
+            25 => Ok(Op::Totals),
+            _ => Err(UnlistedOp(number)),
+        }
+    }
+}
+
+// The call that a record tells of: its code and its arguments. These have names, as `Made` in specs/Replay.antt reads them by place.
+#[derive(Clone, Copy, Debug, PartialEq, Eq)]
 pub struct Call {
     pub op: u64,
     pub first: u64,
@@ -22,57 +101,48 @@ pub struct Call {
     pub eleventh: u64,
 }
 
-// What each answer word holds before a call.
-pub const UNWRITTEN: u64 = 6_148_914_691_236_517_205;
-
-// The call of the record whose words are those from word number k on.
-pub fn call_at(buf: &[u8], k: usize) -> Call
-    requires { k * 8 + 272 ≤ length buf.now }
-    ensures { result ≡ call buf.now k }
+// The call of a record.
+pub fn call_of(bytes: &[u8; RECORD_BYTES]) -> Call
+    ensures { result ≡ call bytes.now 0 }
 {
     Call {
-        op: get(buf, k),
-        first: get(buf, k + 1),
-        second: get(buf, k + 2),
-        third: get(buf, k + 3),
-        fourth: get(buf, k + 4),
-        fifth: get(buf, k + 5),
-        sixth: get(buf, k + 6),
-        seventh: get(buf, k + 7),
-        eighth: get(buf, k + 8),
-        ninth: get(buf, k + 9),
-        tenth: get(buf, k + 10),
-        eleventh: get(buf, k + 11),
+        op: get(bytes, 0),
+        first: get(bytes, 1),
+        second: get(bytes, 2),
+        third: get(bytes, 3),
+        fourth: get(bytes, 4),
+        fifth: get(bytes, 5),
+        sixth: get(bytes, 6),
+        seventh: get(bytes, 7),
+        eighth: get(bytes, 8),
+        ninth: get(bytes, 9),
+        tenth: get(bytes, 10),
+        eleventh: get(bytes, 11),
     }
 }
 
 // What it says of answer word i.
-fn recorded_word(buf: &[u8], k: usize, i: usize) -> u64
-    requires k_in_bounds { k * 8 + 272 ≤ length buf.now }
-    requires i_bound { i < 20 }
-    ensures { result ≡ recorded_word buf.now k i }
+fn recorded_word(bytes: &[u8; RECORD_BYTES], i: usize) -> u64
+    requires { i < ANSWER_WORDS }
+    ensures { result ≡ recorded_word bytes.now 0 i }
 {
-    if (i as u64) < get(buf, k + 13) {
-        return get(buf, k + 14 + i);
+    if (i as u64) < get(bytes, 13) {
+        return get(bytes, 14 + i);
     }
     UNWRITTEN
 }
 
 // Does it have this number and these answer words?
-pub fn is_recorded(buf: &[u8], k: usize, number: u64, out: &[u64]) -> bool
-    requires k_in_bounds { k * 8 + 272 ≤ length buf.now }
-    requires out_len { length out.now ≡ 20 }
-    ensures { Tells result ((number ≡ word buf.now (k + 12)) × (out.now ≡ recorded buf.now k)) }
+pub fn is_recorded(bytes: &[u8; RECORD_BYTES], number: u64, out: &[u64; ANSWER_WORDS]) -> bool
+    ensures { Tells result ((number ≡ word bytes.now 12) × (out.now ≡ recorded bytes.now 0)) }
 {
-    if number != get(buf, k + 12) {
+    if number != get(bytes, 12) {
         return false;
     }
-    let mut i = 0;
-    while i < 20 {
-        if out[i] != recorded_word(buf, k, i) {
+    for (i, word) in out.iter().enumerate() {
+        if *word != recorded_word(bytes, i) {
             return false;
         }
-        i += 1;
     }
     true
 }

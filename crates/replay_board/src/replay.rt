@@ -1,9 +1,13 @@
 // Making a record's call through the functions for C, and comparing what it answers with the record.
-ghost use Rattle.std.specs.Prelude.{◌≡◌, ◌+◌, ◌*◌, ◌≤◌, length};
-ghost use Rattle.replay_board.specs.Replay.{NewThread, Made, Agrees};
+ghost use Rattle.std.specs.Prelude.{◌≡◌};
+ghost use Rattle.std.proofs.Common.{rules};
+ghost use Rattle.replay_board.specs.Record.{code};
+ghost use Rattle.replay_board.specs.Replay.{NewThread, Made, Agrees, replays_record};
 
-use crate::record;
-use crate::record::Call;
+use crate::AREA_BYTES;
+use crate::record::{ANSWER_WORDS, Call, Op, RECORD_BYTES, UNWRITTEN, call_of, is_recorded};
+use carv_area::get;
+use replay_records::Replay;
 
 // A new thread, whose register image is not in the records.
 fn create_user_thread(area: &mut [u8], id: u64, budget: u64, stack: bool, out: &mut [u64]) -> u64
@@ -14,26 +18,38 @@ fn create_user_thread(area: &mut [u8], id: u64, budget: u64, stack: bool, out: &
 }
 
 // The number that the call answers. Its values stand in the first words of out.
-fn make(area: &mut [u8], call: Call, out: &mut [u64]) -> u64
-    requires { (1 ≤ call.op) × (call.op ≤ 25) }
+fn make(area: &mut [u8], op: Op, call: Call, out: &mut [u64]) -> u64
+    requires { call.op ≡ code op }
     ensures { Made call area.old out.old result area.new out.new }
 {
-    let op = call.op;
     match op {
-        1 => carv::carv_open(area, call.first, call.second, out),
-        2 => carv::carv_create(area, call.first, call.second, call.third == 1, out),
-        3 => carv::carv_insert(area, call.first, call.second, call.third, out),
-        4 => carv::carv_create_budget(area, call.first, call.second, call.third, call.fourth, out),
-        5 => carv::carv_charge_more(area, call.first, call.second, out),
-        6 => carv::carv_uncharge(area, call.first, call.second, out),
-        7 => carv::carv_remove(area, call.first, call.second, out),
-        8 => carv::carv_refill(area, call.first, call.second, out),
-        9 => carv::carv_charge_cpu(area, call.first, call.second, call.third, out),
-        10 => carv::carv_pays_for_anything(area, call.first, out),
-        11 => carv::carv_account(area, call.first, out),
-        12 => carv::carv_charge_of(area, call.first, out),
-        13 => create_user_thread(area, call.first, call.second, call.third == 1, out),
-        14 => carv::carv_start(
+        Op::Open => carv::carv_open(area, call.first, call.second, out),
+        Op::Create => carv::carv_create(area, call.first, call.second, call.third == 1, out),
+        Op::Insert => carv::carv_insert(area, call.first, call.second, call.third, out),
+        Op::CreateBudget => carv::carv_create_budget(
+            area,
+            call.first,
+            call.second,
+            call.third,
+            call.fourth,
+            out,
+        ),
+        Op::ChargeMore => carv::carv_charge_more(area, call.first, call.second, out),
+        Op::Uncharge => carv::carv_uncharge(area, call.first, call.second, out),
+        Op::Remove => carv::carv_remove(area, call.first, call.second, out),
+        Op::Refill => carv::carv_refill(area, call.first, call.second, out),
+        Op::ChargeCpu => carv::carv_charge_cpu(area, call.first, call.second, call.third, out),
+        Op::PaysForAnything => carv::carv_pays_for_anything(area, call.first, out),
+        Op::Account => carv::carv_account(area, call.first, out),
+        Op::ChargeOf => carv::carv_charge_of(area, call.first, out),
+        Op::CreateUserThread => create_user_thread(
+            area,
+            call.first,
+            call.second,
+            call.third == 1,
+            out,
+        ),
+        Op::Start => carv::carv_start(
             area,
             call.first,
             call.second,
@@ -48,33 +64,55 @@ fn make(area: &mut [u8], call: Call, out: &mut [u64]) -> u64
             call.eleventh,
             out,
         ),
-        15 => carv::carv_block_current(area, call.first, call.second, out),
-        16 => carv::carv_wake(area, call.first, call.second, call.third, call.fourth, out),
-        17 => carv::carv_is_blocked_on(area, call.first, call.second, call.third, out),
-        18 => carv::carv_kill(area, call.first, call.second, out),
-        19 => carv::carv_tick(area, call.first, out),
-        20 => carv::carv_plan(area, call.first, out),
-        21 => carv::carv_read_thread(area, call.first, out),
-        22 => carv::carv_current(area, out),
-        23 => carv::carv_switches(area, out),
-        24 => carv::carv_exit_of(area, call.first, out),
-        _ => carv::carv_totals(area, call.first, out),
+        Op::BlockCurrent => carv::carv_block_current(area, call.first, call.second, out),
+        Op::Wake => carv::carv_wake(area, call.first, call.second, call.third, call.fourth, out),
+        Op::IsBlockedOn => carv::carv_is_blocked_on(area, call.first, call.second, call.third, out),
+        Op::Kill => carv::carv_kill(area, call.first, call.second, out),
+        Op::Tick => carv::carv_tick(area, call.first, out),
+        Op::Plan => carv::carv_plan(area, call.first, out),
+        Op::ReadThread => carv::carv_read_thread(area, call.first, out),
+        Op::Current => carv::carv_current(area, out),
+        Op::Switches => carv::carv_switches(area, out),
+        Op::ExitOf => carv::carv_exit_of(area, call.first, out),
+        Op::Totals => carv::carv_totals(area, call.first, out),
     }
 }
 
 // Does the call of the record answer what the record says? One with a code that is not listed is not made and does not.
-pub fn matches(area: &mut [u8], buf: &[u8], k: usize) -> bool
-    requires { k * 8 + 272 ≤ length buf.now }
-    ensures { Agrees buf.now k area.old result area.new }
+fn matches(area: &mut [u8], bytes: &[u8; RECORD_BYTES]) -> bool
+    ensures { Agrees bytes.now 0 area.old result area.new }
 {
-    let call = record::call_at(buf, k);
-    if call.op < 1 {
+    let call = call_of(bytes);
+    let Ok(op) = Op::try_from(call.op) else {
         return false;
+    };
+    let mut out = [UNWRITTEN; ANSWER_WORDS];
+    let number = make(area, op, call, &mut out);
+    is_recorded(bytes, number, &out)
+}
+
+// The board that the calls are made on. It tells on rt which differ; where that can't be written, the count goes on all the same.
+#[derive(Drop)]
+pub struct Board<'a, P> {
+    pub area: [u8; AREA_BYTES],
+    pub rt: &'a P,
+}
+
+impl<'a, P: Print> Replay<RECORD_BYTES> for Board<'a, P> {
+    ghost replays = { λ bytes before right after. replays_record bytes before.area right after.area };
+
+    fn replay(&mut self, bytes: &[u8; RECORD_BYTES]) -> bool {
+        matches(&mut self.area, bytes)
     }
-    if call.op > 25 {
-        return false;
+
+    fn tell(&self, number: u64, bytes: &[u8; RECORD_BYTES]) {
+        let op = get(bytes, 0);
+        let _ = println!(self.rt; "record {number} differs: call {op}");
     }
-    let mut out = [record::UNWRITTEN; 20];
-    let number = make(area, call, &mut out);
-    record::is_recorded(buf, k, number, &out)
+
+    fn tell_cut(&self) {
+        let _ = println!(self.rt; "the last record is cut short");
+    }
+
+    ghost size_fits = { Prim.search rules };
 }

@@ -1,13 +1,19 @@
--- The laws of `Replay`: that the test of equality tells equality, which op is not listed, and one record more. Assumes nothing.
-use Rattle.std.specs.Prelude.{Bool, true, false, cond, ◌&&◌, List, ◌≡◌, refl, ℕ, ◌+◌, ◌*◌, ◌≤◌, leb}
-use Rattle.std.proofs.Common.{sym, ap, ◌∙◌, arith, eqb-true, eq-eqb, leb-true}
+-- The laws of `Replay`: that the test of equality tells equality, that yes and no are told alike, and that records by their own bytes are those of the bytes that they stand in. Assumes nothing.
+use Rattle.std.specs.Prelude.{Bool, true, ◌&&◌, List, length, ◌≡◌, refl, ℕ, ◌+◌, ◌*◌, ◌≤◌, ◌<◌, eqb, Result, Ok, Err}
+use Rattle.std.proofs.Common.{arith, eqb-true, eq-eqb, lit<, add-zero}
+use Rattle.std.proofs.Math.Bool.{and_assoc}
+use Rattle.std.specs.Fork.{slice_chunk}
 use Rattle.carv_budget.proofs.Laws.Account.{both, first, second}
-use Rattle.carv_objects.specs.declared.Answer.{Answer}
-use Rattle.replay_records.proofs.Laws.Replayed as replayed
-use Rattle.replay_objects.specs.declared.record.Call.{Call}
+use Rattle.carv_objects.specs.declared.refusal.Refusal.{Refusal}
+use Rattle.carv_objects.specs.Answer.{renewed_of, pays_of}
+use Rattle.replay_records.specs.Word.{word}
+use Rattle.replay_records.specs.Replayed as each
+use Rattle.replay_records.proofs.Laws.Replayed.{told_by}
+use Rattle.replay_records.proofs.Laws.Word.{word_of}
 use Rattle.replay_objects.specs.declared.record.Reply.{Reply}
+use Rattle.replay_objects.specs.declared.replay.Registry.{Registry}
 use Rattle.replay_objects.specs.Record.{call, reply}
-use Rattle.replay_objects.specs.Replay.{replied, same, Agrees, Replays}
+use Rattle.replay_objects.specs.Replay.{same, replied, Agrees, Replays, replays_record}
 
 -- replies whose words are equal
 abbrev whole : Reply → Reply
@@ -30,39 +36,33 @@ pub same_shown : (a b : Reply) → a ≡ b → same a b ≡ true
 unfolding same
 same_shown a b e = rw e (search (both, eq-eqb) depth 9)
 
--- for `is_same`: every word is equal, or one is not
-pub alike : (a b : Reply) → a.number ≡ b.number → a.first ≡ b.first → a.second ≡ b.second → a.third ≡ b.third → a.fourth ≡ b.fourth
-    → a.fifth ≡ b.fifth → a.sixth ≡ b.sixth → a.seventh ≡ b.seventh → true ≡ same a b
-alike a b e0 e1 e2 e3 e4 e5 e6 e7 = sym (same_shown a b (all_equal a b e0 e1 e2 e3 e4 e5 e6 e7))
+-- the derived test asks the same words, grouped from the other end
+pub same_derived : (a b : Reply) → (eqb a.number b.number && (eqb a.first b.first && (eqb a.second b.second && (eqb a.third b.third
+    && (eqb a.fourth b.fourth && (eqb a.fifth b.fifth && (eqb a.sixth b.sixth && eqb a.seventh b.seventh))))))) ≡ same a b
+unfolding same
+same_derived a b = simp (← and_assoc) refl
 
-refuted : (b : Bool) → (b ≡ true → ⊥) → b ≡ false
-refuted true n = absurd (n refl)
-refuted false n = refl
+-- whether a renewal was due and whether an object pays are told by the same words
+pub yes_or_no : (r : Result Bool Refusal) → replied renewed_of r ≡ replied pays_of r
+yes_or_no (Ok b) = refl
+yes_or_no (Err e) = refl
 
-pub unlike : (a b : Reply) (word : Reply → ℕ) → (word a ≡ word b → ⊥) → false ≡ same a b
-unlike a b word n = sym (refuted (same a b) (λ p. n (ap word (same_told a b p))))
+-- a record of l by its own bytes and by where it stands in l
+module _ (l : List ℕ) (k : ℕ) (h : (k * 16 + 16) * 8 ≤ length l) where
+  at : (j : ℕ) → j < 16 → word (slice_chunk l 128 k) j ≡ word l (k * 16 + j)
+  at j = word_of 16 l k j h
 
--- for `reply_of`, where the answer x is y
-pub replied_as : (x y : Answer) → x ≡ y → (r : Reply) → r ≡ replied y → r ≡ replied x
-replied_as x y e r p = p ∙ ap replied (sym e)
+  call_in : call (slice_chunk l 128 k) 0 ≡ call l (k * 16)
+  unfolding call
+  call_in = rw (at 0 (lit< tt), at 1 (lit< tt), at 2 (lit< tt), at 3 (lit< tt), at 4 (lit< tt), add-zero) refl
 
--- an op that is none of those that are listed
-module _ (op : ℕ) where
-  above : (n : ℕ) → n ≤ op → (op ≡ n → ⊥) → n + 1 ≤ op
-  above n h k = omega (arith, h, k)
+  reply_in : reply (slice_chunk l 128 k) 0 ≡ reply l (k * 16)
+  unfolding reply
+  reply_in =
+      rw (at 5 (lit< tt), at 6 (lit< tt), at 7 (lit< tt), at 8 (lit< tt), at 9 (lit< tt), at 10 (lit< tt), at 11 (lit< tt), at 12 (lit< tt)) refl
 
-  pub none_listed : (op ≡ 1 → ⊥) → (op ≡ 2 → ⊥) → (op ≡ 3 → ⊥) → (op ≡ 4 → ⊥) → (op ≡ 5 → ⊥) → (op ≡ 6 → ⊥) → (op ≡ 7 → ⊥) → (op ≡ 8 → ⊥) → (op ≡ 9 → ⊥)
-      → (op ≡ 10 → ⊥) → (op ≡ 11 → ⊥) → (op ≡ 12 → ⊥) → (op ≡ 13 → ⊥) → (leb 1 op && leb op 13) ≡ false
-  none_listed n1 n2 n3 n4 n5 n6 n7 n8 n9 n10 n11 n12 n13 =
-      refuted (leb 1 op && leb op 13)
-      (λ p.
-      let h : 1 ≤ op = leb-true 1 op (first (leb 1 op) (leb op 13) p) in
-      let k : 14 ≤ op = above 13 (above 12 (above 11 (above 10 (above 9 (above 8 (above 7 (above 6 (above 5 (above 4 (above 3 (above 2 (above 1 h n1) n2) n3) n4) n5) n6) n7) n8) n9) n10) n11) n12) n13 in
-      omega (arith, k, leb-true op 13 (second (leb 1 op) (leb op 13) p)))
-
--- one record more
-pub one_more : (l a : List ℕ) (n d : ℕ) (a₁ a₂ : List ℕ) (c : Call) (y : Reply) (b : Bool) → Replays a a₁ l n d → c ≡ call l (n * 16) → y ≡ reply l (n * 16)
-    → Agrees c y a₁ b a₂ → (d₂ : ℕ) → d₂ ≡ d + cond b 0 1 → Replays a a₂ l (n + 1) d₂
-one_more l a n d a₁ a₂ c y b h p q g d₂ e =
-    let k : Agrees (call l (n * 16)) (reply l (n * 16)) a₁ b a₂ = rw (sym p, sym q) g in
-    replayed.one_more (λ i. Agrees (call l (i * 16)) (reply l (i * 16))) a n d a₁ a₂ b h k d₂ e
+-- what the replay of records by their own bytes, which the code promises, says of them in the bytes that they stand in
+pub replays_in : (l : List ℕ) (n d : ℕ) (s s' : Registry) → n * 128 ≤ length l → each.Replays replays_record 128 s s' l n d → Replays s.area s'.area l n d
+replays_in l n d s s' h =
+    told_by (λ (r : Registry). r.area) (λ k. replays_record (slice_chunk l 128 k)) (λ k. Agrees (call l (k * 16)) (reply l (k * 16))) s n d s'
+    (λ k b r x r' g. let room : (k * 16 + 16) * 8 ≤ length l = omega (arith, h, b) in rw (← (call_in l k room), ← (reply_in l k room)) g)

@@ -7,10 +7,33 @@
 --   words 6-12    the values: an id; 1 or 0 for yes or no (8, 10); the seven figures of an account; payer and charge;
 --                 memory used, memory free and CPU left (13)
 -- Every other word is 0. Among words 1-4 and 13-15 it is not looked at, and among words 6-12 it is compared.
-use Rattle.std.specs.Prelude.{ℕ, ◌+◌, List}
+use Rattle.std.specs.Prelude.{◌≡◌, false, ◌&&◌, ℕ, ◌+◌, List, leb, Result, MatchResult}
 use Rattle.replay_records.specs.Word.{word}
+use Rattle.replay_objects.specs.declared.record.Op.{Op}
+use Rattle.replay_objects.specs.declared.record.Op.TheVariants.{Open, Create, Insert, CreateBudget, ChargeMore, Uncharge, Remove, Refill, ChargeCpu, PaysForAnything, Account, ChargeOf, Totals}
+use Rattle.replay_objects.specs.declared.record.UnlistedOp.{UnlistedOp}
 use Rattle.replay_objects.specs.declared.record.Call.{Call}
 use Rattle.replay_objects.specs.declared.record.Reply.{Reply}
+
+-- the number of an op in a record
+abbrev pub code : Op → ℕ
+code Open = 1
+code Create = 2
+code Insert = 3
+code CreateBudget = 4
+code ChargeMore = 5
+code Uncharge = 6
+code Remove = 7
+code Refill = 8
+code ChargeCpu = 9
+code PaysForAnything = 10
+code Account = 11
+code ChargeOf = 12
+code Totals = 13
+
+-- the op with this number, or a number that is not listed
+abbrev pub Decodes : ℕ → Result Op UnlistedOp → Type 0
+Decodes n r = MatchResult r (λ op. n ≡ code op) (λ e. (leb 1 n && leb n 13) ≡ false)
 
 -- the call of the record from word number k on
 unfoldable pub call : List ℕ → ℕ → Call

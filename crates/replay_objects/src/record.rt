@@ -1,11 +1,60 @@
 // Reading a record: 16 words of 8 bytes each, the least byte first.
-ghost use Rattle.std.specs.Prelude.{◌≡◌, ◌+◌, ◌*◌, ◌≤◌, length};
-ghost use Rattle.replay_objects.specs.Record.{call, reply};
+ghost use Rattle.std.specs.Prelude.{◌≡◌};
+ghost use Rattle.replay_objects.specs.Record.{Decodes, call, reply};
 
 use carv_area::get;
 
-// The call that a record tells of.
-#[derive(Clone, Copy)]
+pub const RECORD_BYTES: usize = 128;
+
+// The calls.
+#[derive(Clone, Copy, Debug, PartialEq, Eq)]
+pub enum Op {
+    Open,
+    Create,
+    Insert,
+    CreateBudget,
+    ChargeMore,
+    Uncharge,
+    Remove,
+    Refill,
+    ChargeCpu,
+    PaysForAnything,
+    Account,
+    ChargeOf,
+    Totals,
+}
+
+// A number that no op has.
+#[derive(Clone, Copy, Debug, PartialEq, Eq)]
+pub struct UnlistedOp(pub u64);
+
+impl TryFrom<u64> for Op {
+    type Error = UnlistedOp;
+
+    ghost try_from_gives = { Decodes };
+
+    fn try_from(number: u64) -> Result<Op, UnlistedOp> {
+        match number {
+            1 => Ok(Op::Open),
+            2 => Ok(Op::Create),
+            3 => Ok(Op::Insert),
+            4 => Ok(Op::CreateBudget),
+            5 => Ok(Op::ChargeMore),
+            6 => Ok(Op::Uncharge),
+            7 => Ok(Op::Remove),
+            8 => Ok(Op::Refill),
+            9 => Ok(Op::ChargeCpu),
+            10 => Ok(Op::PaysForAnything),
+            11 => Ok(Op::Account),
+            12 => Ok(Op::ChargeOf),
+            13 => Ok(Op::Totals),
+            _ => Err(UnlistedOp(number)),
+        }
+    }
+}
+
+// The call that a record tells of. Its arguments have names, as `Made` in specs/Replay.antt reads them by place.
+#[derive(Clone, Copy, Debug, PartialEq, Eq)]
 pub struct Call {
     pub op: u64,
     pub first: u64,
@@ -15,7 +64,7 @@ pub struct Call {
 }
 
 // An answer: its number, and its values, as many as it has, the rest 0.
-#[derive(Clone, Copy)]
+#[derive(Clone, Copy, Debug, PartialEq, Eq)]
 pub struct Reply {
     pub number: u64,
     pub first: u64,
@@ -27,33 +76,33 @@ pub struct Reply {
     pub seventh: u64,
 }
 
-// The call of the record whose words are those from word number k on.
-pub fn call_at(buf: &[u8], k: usize) -> Call
-    requires { k * 8 + 128 ≤ length buf.now }
-    ensures { result ≡ call buf.now k }
+// The call of a record.
+#[tactic(auto, unfolding(crate::specs::Record::call))]
+pub fn call_of(bytes: &[u8; RECORD_BYTES]) -> Call
+    ensures { result ≡ call bytes.now 0 }
 {
     Call {
-        op: get(buf, k),
-        first: get(buf, k + 1),
-        second: get(buf, k + 2),
-        third: get(buf, k + 3),
-        fourth: get(buf, k + 4),
+        op: get(bytes, 0),
+        first: get(bytes, 1),
+        second: get(bytes, 2),
+        third: get(bytes, 3),
+        fourth: get(bytes, 4),
     }
 }
 
 // The answer that it expects.
-pub fn reply_at(buf: &[u8], k: usize) -> Reply
-    requires { k * 8 + 128 ≤ length buf.now }
-    ensures { result ≡ reply buf.now k }
+#[tactic(auto, unfolding(crate::specs::Record::reply))]
+pub fn reply_of(bytes: &[u8; RECORD_BYTES]) -> Reply
+    ensures { result ≡ reply bytes.now 0 }
 {
     Reply {
-        number: get(buf, k + 5),
-        first: get(buf, k + 6),
-        second: get(buf, k + 7),
-        third: get(buf, k + 8),
-        fourth: get(buf, k + 9),
-        fifth: get(buf, k + 10),
-        sixth: get(buf, k + 11),
-        seventh: get(buf, k + 12),
+        number: get(bytes, 5),
+        first: get(bytes, 6),
+        second: get(bytes, 7),
+        third: get(bytes, 8),
+        fourth: get(bytes, 9),
+        fifth: get(bytes, 10),
+        sixth: get(bytes, 11),
+        seventh: get(bytes, 12),
     }
 }

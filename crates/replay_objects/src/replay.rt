@@ -1,9 +1,17 @@
 // Making a record's call, and comparing what it answers with the record.
-ghost use Rattle.std.specs.Prelude.{◌≡◌};
-ghost use Rattle.replay_objects.specs.Replay.{numbered, replied, same, Agrees};
+ghost use Rattle.std.specs.Prelude.{◌≡◌, Option};
+ghost use Rattle.std.proofs.Common.{rules};
+ghost use Rattle.carv_objects_spec.specs.Reply.{Value};
+ghost use Rattle.carv_objects.specs.Answer as answer;
+ghost use Rattle.replay_objects.specs.Record.{code};
+ghost use Rattle.replay_objects.specs.Replay.{numbered, told, replied, Made, Agrees, replays_record};
 
-use crate::record::{Call, Reply};
-use carv_objects::Answer;
+use crate::AREA_BYTES;
+use crate::record::{Call, Op, RECORD_BYTES, Reply, call_of, reply_of};
+use carv_budget::Account;
+use carv_objects::{Charge, Refusal};
+use carv_objects_spec::Totals;
+use replay_records::Replay;
 
 // A number with at most two values.
 fn short(number: u64, first: u64, second: u64) -> Reply
@@ -21,112 +29,139 @@ fn short(number: u64, first: u64, second: u64) -> Reply
     }
 }
 
-fn reply_of(answer: Answer) -> Reply
-    ensures { result ≡ replied answer }
-{
-    match answer {
-        Answer::Done => short(0, 0, 0),
-        Answer::Id(id) => short(0, id, 0),
-        Answer::Renewed => short(0, 1, 0),
-        Answer::NotDue => short(0, 0, 0),
-        Answer::Pays => short(0, 1, 0),
-        Answer::PaysNothing => short(0, 0, 0),
-        Answer::AccountOf(account) => Reply {
-            number: 0,
-            first: account.cpu_allowance,
-            second: account.memory_limit,
-            third: account.period_start,
-            fourth: account.cpu_left,
-            fifth: account.cpu_reserved,
-            sixth: account.memory_used,
-            seventh: account.memory_reserved,
-        },
-        Answer::Charge(payer, bytes) => short(0, payer, bytes),
-        Answer::TotalsOf(totals) => Reply {
-            number: 0,
-            first: totals.memory_used,
-            second: totals.memory_free,
-            third: totals.cpu_left,
-            fourth: 0,
-            fifth: 0,
-            sixth: 0,
-            seventh: 0,
-        },
-        Answer::Refused(number) => short(number, 0, 0),
+// What an accepted call answers.
+trait Told {
+    // The value that it tells.
+    ghost tells: { Self → Option Value };
+
+    // An accepted call's reply.
+    fn reply(self) -> Reply
+        ensures { result ≡ told 0 (tells self) };
+}
+
+impl Told for () {
+    ghost tells = { answer.nothing };
+
+    fn reply(self) -> Reply {
+        short(0, 0, 0)
     }
 }
 
-// Whether two replies are equal (same-told and same-shown in specs/Laws.antt).
-fn is_same(a: Reply, b: Reply) -> bool
-    ensures { result ≡ same a b }
-{
-    if a.number != b.number {
-        return false;
+impl Told for u64 {
+    ghost tells = { answer.id_of };
+
+    fn reply(self) -> Reply {
+        short(0, self, 0)
     }
-    if a.first != b.first {
-        return false;
-    }
-    if a.second != b.second {
-        return false;
-    }
-    if a.third != b.third {
-        return false;
-    }
-    if a.fourth != b.fourth {
-        return false;
-    }
-    if a.fifth != b.fifth {
-        return false;
-    }
-    if a.sixth != b.sixth {
-        return false;
-    }
-    if a.seventh != b.seventh {
-        return false;
-    }
-    true
 }
 
-fn replies(answer: Answer, reply: Reply) -> bool
-    ensures { result ≡ same (replied answer) reply }
+// Yes or no. Whether a renewal was due and whether an object pays are told by the same words.
+impl Told for bool {
+    ghost tells = { answer.renewed_of };
+
+    fn reply(self) -> Reply {
+        short(0, u64::from(self), 0)
+    }
+}
+
+impl Told for Account {
+    ghost tells = { answer.account_of };
+
+    fn reply(self) -> Reply {
+        Reply {
+            number: 0,
+            first: self.cpu_allowance,
+            second: self.memory_limit,
+            third: self.period_start,
+            fourth: self.cpu_left,
+            fifth: self.cpu_reserved,
+            sixth: self.memory_used,
+            seventh: self.memory_reserved,
+        }
+    }
+}
+
+impl Told for Charge {
+    ghost tells = { answer.charge_of };
+
+    fn reply(self) -> Reply {
+        short(0, self.payer, self.bytes)
+    }
+}
+
+impl Told for Totals {
+    ghost tells = { answer.totals_of };
+
+    fn reply(self) -> Reply {
+        Reply {
+            third: self.cpu_left,
+            ..short(0, self.memory_used, self.memory_free)
+        }
+    }
+}
+
+impl<T: Told> From<Result<T, Refusal>> for Reply {
+    ghost from_gives = { λ answer reply. reply ≡ replied T.tells answer };
+
+    fn from(answer: Result<T, Refusal>) -> Reply {
+        match answer {
+            Ok(value) => value.reply(),
+            Err(refusal) => short(refusal.number(), 0, 0),
+        }
+    }
+}
+
+// Makes the call.
+fn make(area: &mut [u8], op: Op, call: Call) -> Reply
+    requires { call.op ≡ code op }
+    ensures { Made call area.old result area.new }
 {
-    is_same(reply_of(answer), reply)
+    let Call {
+        first,
+        second,
+        third,
+        fourth,
+        ..
+    } = call;
+    match op {
+        Op::Open => carv_objects::open(area, first, second).into(),
+        Op::Create => carv_objects::create(area, first, second, third == 1).into(),
+        Op::Insert => carv_objects::insert(area, first, second, third).into(),
+        Op::CreateBudget => carv_objects::create_budget(area, first, second, third, fourth).into(),
+        Op::ChargeMore => carv_objects::charge_more(area, first, second).into(),
+        Op::Uncharge => carv_objects::uncharge(area, first, second).into(),
+        Op::Remove => carv_objects::remove(area, first, second).into(),
+        Op::Refill => carv_objects::refill(area, first, second).into(),
+        Op::ChargeCpu => carv_objects::charge_cpu(area, first, second, third).into(),
+        Op::PaysForAnything => carv_objects::pays_for_anything(area, first).into(),
+        Op::Account => carv_objects::account(area, first).into(),
+        Op::ChargeOf => carv_objects::charge_of(area, first).into(),
+        Op::Totals => carv_objects::totals(area, first).into(),
+    }
 }
 
 // Whether the call answers the reply. One with an op that is not listed is not made and answers none.
-pub fn matches(area: &mut [u8], call: Call, reply: Reply) -> bool
+fn matches(area: &mut [u8], call: Call, reply: Reply) -> bool
     ensures { Agrees call reply area.old result area.new }
 {
-    let op = call.op;
-    match op {
-        1 => replies(carv_objects::open(area, call.first, call.second), reply),
-        2 => replies(
-            carv_objects::create(area, call.first, call.second, call.third == 1),
-            reply,
-        ),
-        3 => replies(
-            carv_objects::insert(area, call.first, call.second, call.third),
-            reply,
-        ),
-        4 => replies(
-            carv_objects::create_budget(area, call.first, call.second, call.third, call.fourth),
-            reply,
-        ),
-        5 => replies(
-            carv_objects::charge_more(area, call.first, call.second),
-            reply,
-        ),
-        6 => replies(carv_objects::uncharge(area, call.first, call.second), reply),
-        7 => replies(carv_objects::remove(area, call.first, call.second), reply),
-        8 => replies(carv_objects::refill(area, call.first, call.second), reply),
-        9 => replies(
-            carv_objects::charge_cpu(area, call.first, call.second, call.third),
-            reply,
-        ),
-        10 => replies(carv_objects::pays_for_anything(area, call.first), reply),
-        11 => replies(carv_objects::account(area, call.first), reply),
-        12 => replies(carv_objects::charge_of(area, call.first), reply),
-        13 => replies(carv_objects::totals(area, call.first), reply),
-        _ => false,
+    let Ok(op) = Op::try_from(call.op) else {
+        return false;
+    };
+    make(area, op, call) == reply
+}
+
+// The registry that the calls are made on.
+#[derive(Drop)]
+pub struct Registry {
+    pub area: [u8; AREA_BYTES],
+}
+
+impl Replay<RECORD_BYTES> for Registry {
+    ghost replays = { replays_record };
+
+    fn replay(&mut self, bytes: &[u8; RECORD_BYTES]) -> bool {
+        matches(&mut self.area, call_of(bytes), reply_of(bytes))
     }
+
+    ghost size_fits = { Prim.search rules };
 }

@@ -1,107 +1,217 @@
-// What the programs that replay recorded calls share: reading standard input in blocks of whole records, and counting what the blocks
-// give. A record is a number of 64-bit words, which carv_area::get reads. The loops over blocks and over records stay in the programs, as
-// no function can be handed another, and with them what is theirs: a record's layout, its calls, and the line that tells the tally, of
-// which no contract could say anything.
+// What the programs that replay recorded calls share: reading standard input in blocks of whole records, replaying each record, and
+// counting what the blocks give. A program is an impl of Replay: what a record is, and what its replay says and leaves.
 #![tactic(auto)]
 
-ghost use Rattle.std.specs.Prelude.{◌≡◌, ◌/◌, ◌≤◌, ◌<◌, length, take, drop};
-ghost use Rattle.std.specs.Io.KnownBytes.{Consumes};
-ghost use Rattle.replay_records.specs.Tally.{block_bytes, cut, started, added, Room};
+ghost use Rattle.std.specs.Prelude.{◌≡◌, ◌+◌, ◌/◌, ◌≤◌, ◌<◌, ◌⊎◌, ℕ, Bool, List, length, take, drop, IsFalse};
+ghost use Rattle.std.specs.Io.KnownBytes.{Consumes, IsAtEnd};
+ghost use Rattle.replay_records.specs.Tally.{block_bytes, cut, started, added, Room, Counted, Taken, Told, most_calls};
+ghost use Rattle.replay_records.specs.Replayed.{Replays};
+ghost use Rattle.replay_records.specs.declared.TheConstants.{BUFFER_BYTES};
 
+use std::fmt;
 use std::io::Read;
 
 // The bytes of the buffer that a block is read into.
 const BUFFER_BYTES: usize = 65_536;
 
+// The most blocks that are read.
+const MOST_BLOCKS: u64 = 1_000_000_000_000;
+
+// A program that replays records of SIZE bytes one after the other.
+pub trait Replay<const SIZE: usize> {
+    // `replays bytes before right after`: the call of the record with these bytes, made in the state `before`, leaves `after`, and
+    // `right` tells whether it answers as recorded.
+    ghost replays: { List ℕ → Self → Bool → Self → Type 0 };
+
+    // Makes the record's call and tells whether it answers as recorded.
+    fn replay(&mut self, bytes: &[u8; SIZE]) -> bool
+        ensures { replays bytes.now self.old result self.new };
+
+    // Told of a record that differs, with its number, counted from 1.
+    fn tell(&self, _number: u64, _bytes: &[u8; SIZE]) {}
+
+    // Told that the input ends inside a record.
+    fn tell_cut(&self) {}
+
+    // A record has bytes, and fits the buffer.
+    ghost size_fits: { (0 < SIZE) × (SIZE ≤ BUFFER_BYTES) };
+}
+
 // What the blocks so far give, and how many more may come. A proved loop has to end, and nothing says that the input does. So the
 // blocks are counted down, from a number that no run uses up.
-#[derive(Clone, Copy)]
+#[derive(Clone, Copy, Debug, PartialEq, Eq)]
 pub struct Tally {
     pub calls: u64,
     pub differences: u64,
     pub blocks: u64,
 }
 
-// Before the first block.
-pub fn start() -> Tally
-    ensures value { result ≡ started }
-    ensures room { Room result }
-{
-    Tally {
-        calls: 0,
-        differences: 0,
-        blocks: 1_000_000_000_000,
+impl fmt::Display for Tally {
+    fn fmt<W: fmt::Write>(&self, f: &mut fmt::Formatter<W>) -> fmt::Result {
+        write!(f, "{} calls, {} differences", self.calls, self.differences)
+    }
+}
+
+impl Tally {
+    // Before the first block.
+    fn start() -> Tally
+        ensures value { result ≡ started }
+        ensures room { Room result }
+    {
+        Tally {
+            calls: 0,
+            differences: 0,
+            blocks: MOST_BLOCKS,
+        }
+    }
+
+    // The tally with one more block, of n bytes, in which so many records differ. A record that is cut short is a difference and no
+    // call; behind a block that isn't full there is none.
+    fn add(self, n: usize, size: usize, differences: u64) -> Tally
+        requires size_nonzero { (0 < size) × (n ≤ BUFFER_BYTES) × (differences ≤ n / size) }
+        requires room { Room self × (0 < self.blocks) }
+        ensures { result ≡ added self n size differences }
+    {
+        let blocks = if n == block_bytes(size) {
+            self.blocks - 1
+        } else {
+            0
+        };
+        Tally {
+            calls: self.calls + (n / size) as u64,
+            differences: self.differences + differences + cut_short(n, size),
+            blocks,
+        }
     }
 }
 
 // The bytes of a full block: as many records of `size` bytes as the buffer holds.
+#[tactic(auto, unfolding(crate::specs::Tally::block_bytes))]
 fn block_bytes(size: usize) -> usize
     requires { 0 < size }
-    ensures { (result ≡ block_bytes size) × (result ≤ 65_536) }
+    ensures { (result ≡ block_bytes size) × (result ≤ BUFFER_BYTES) }
 {
     BUFFER_BYTES / size * size
 }
 
-// Reads until buf is full, the input ends or a read fails, and says how many bytes it put at the start of buf. On an empty buf it makes
-// no call.
-fn read_full<R: Read>(input: &mut R, buf: &mut [u8]) -> usize
-    ensures bound { result ≤ length buf.new }
-    ensures bytes { Consumes (R.remaining input.old) (R.remaining input.new) (take result buf.new) }
+// 1 where n bytes end inside a record of `size` bytes.
+#[tactic(auto, unfolding(crate::specs::Tally::cut))]
+fn cut_short(n: usize, size: usize) -> u64
+    requires { 0 < size }
+    ensures { (result ≡ cut n size) × (result ≤ 1) }
 {
-    let mut done = 0;
-    while done < buf.len() {
-        match input.read(&mut buf[done..]) {
-            Ok(0) => break,
-            Ok(n) => done += n,
-            Err(_) => break,
-        }
-    }
-    done
+    u64::from(n % size != 0)
 }
 
-// Reads a block of records of `size` bytes from the input to the start of buf and says how many bytes it has. A read that fails counts
-// as the end of the input. Of an input whose bytes are known, just these are taken, in their order.
-pub fn read_block<R: Read>(input: &mut R, buf: &mut [u8], size: usize) -> usize
-    requires size_nonzero { 0 < size }
-    requires buf_len { length buf.old ≡ 65_536 }
-    ensures upper_bound { (result ≤ 65_536) × (result ≤ block_bytes size) }
+// What was read: how many bytes, and whether a read failed behind them.
+#[derive(Clone, Copy, Debug, PartialEq, Eq)]
+struct Reading {
+    bytes: usize,
+    failed: bool,
+}
+
+// Reads to the start of buf until it is full, the input ends or a read fails. On an empty buf it makes no call.
+fn read_full<R: Read>(input: &mut R, buf: &mut [u8]) -> Reading
+    ensures bound { result.bytes ≤ length buf.new }
+    ensures bytes { Consumes (R.remaining input.old) (R.remaining input.new) (take result.bytes buf.new) }
+    ensures end { result.bytes < length buf.new → IsFalse result.failed → IsAtEnd (R.remaining input.new) }
+{
+    let mut bytes = 0;
+    let mut failed = false;
+    while bytes < buf.len() {
+        match input.read(&mut buf[bytes..]) {
+            Ok(0) => break,
+            Ok(n) => bytes += n,
+            Err(_) => {
+                failed = true;
+                break;
+            }
+        }
+    }
+    Reading { bytes, failed }
+}
+
+// Reads a block of records of `size` bytes from the input to the start of buf. Of an input whose bytes are known, just these are taken,
+// in their order, and a block that isn't full ends it, unless a read failed.
+fn read_block<R: Read>(input: &mut R, buf: &mut [u8; BUFFER_BYTES], size: usize) -> Reading
+    requires { 0 < size }
+    ensures upper_bound { (result.bytes ≤ BUFFER_BYTES) × (result.bytes ≤ block_bytes size) }
     ensures buf_unchanged { drop (block_bytes size) buf.new ≡ drop (block_bytes size) buf.old }
-    ensures bytes { Consumes (R.remaining input.old) (R.remaining input.new) (take result buf.new) }
+    ensures bytes { Consumes (R.remaining input.old) (R.remaining input.new) (take result.bytes buf.new) }
+    ensures end { result.bytes < block_bytes size → IsFalse result.failed → IsAtEnd (R.remaining input.new) }
 {
     let most = block_bytes(size);
     read_full(input, &mut buf[..most])
 }
 
-// 1 where n bytes end inside a record of `size` bytes.
-pub fn cut_short(n: usize, size: usize) -> u64
-    requires { 0 < size }
-    ensures { (result ≡ cut n size) × (result ≤ 1) }
+// How many of the block's whole records differ. There were `before` records before them.
+fn differences<const SIZE: usize, P: Replay<SIZE>>(
+    program: &mut P,
+    block: &[u8],
+    before: u64,
+) -> u64
+    requires { before + length block.now ≤ u64.MAX }
+    ensures replayed { Replays P.replays SIZE program.old program.new block.now (length block.now / SIZE) result }
+    ensures few { result ≤ length block.now / SIZE }
 {
-    if n % size == 0 {
-        return 0;
+    let (records, _cut) = block.as_chunks::<SIZE>();
+    let mut count = 0;
+    for (i, bytes) in records.iter().enumerate() {
+        if !program.replay(bytes) {
+            program.tell(before + i as u64 + 1, bytes);
+            count += 1;
+        }
     }
-    1
+    count
 }
 
-// The tally with one more block, of n bytes, in which so many records differ. A record that is cut short is a difference and no
-// call; behind a block that isn't full there is none.
-pub fn add(tally: Tally, n: usize, size: usize, differences: u64) -> Tally
-    requires size_nonzero { (0 < size) × (n ≤ 65_536) × (differences ≤ n / size) }
-    requires room { Room tally × (0 < tally.blocks) }
-    ensures { result ≡ added tally n size differences }
+// What was replayed, and whether a read failed, which counts as the end of the input.
+#[derive(Clone, Copy, Debug, PartialEq, Eq)]
+pub struct Run {
+    pub tally: Tally,
+    pub failed: bool,
+}
+
+// Reads and replays a block more.
+fn next_block<const SIZE: usize, R: Read, P: Replay<SIZE>>(
+    input: &mut R,
+    program: &mut P,
+    tally: Tally,
+) -> Run
+    requires { Room tally × (0 < tally.blocks) }
+    ensures counted { Counted SIZE (Replays P.replays SIZE program.old program.new) tally result.tally }
+    ensures taken { Taken SIZE (Replays P.replays SIZE program.old program.new) tally result
+        (R.remaining input.old) (R.remaining input.new) }
+    ensures room { Room result.tally × (result.tally.blocks < tally.blocks) }
 {
-    let calls = tally.calls + (n / size) as u64;
-    let different = tally.differences + differences + cut_short(n, size);
-    if n != block_bytes(size) {
-        return Tally {
-            calls,
-            differences: different,
-            blocks: 0,
-        };
+    let mut buf = [0; BUFFER_BYTES];
+    let read = read_block(input, &mut buf, SIZE);
+    let different = differences(program, &buf[..read.bytes], tally.calls);
+    if cut_short(read.bytes, SIZE) == 1 {
+        program.tell_cut();
     }
-    Tally {
-        calls,
-        differences: different,
-        blocks: tally.blocks - 1,
+    Run {
+        tally: tally.add(read.bytes, SIZE, different),
+        failed: read.failed,
     }
+}
+
+// Replays the records of the input, up to its end or a read that fails.
+pub fn replay_all<const SIZE: usize, R: Read, P: Replay<SIZE>>(
+    input: &mut R,
+    program: &mut P,
+) -> Run
+    ensures told { (bytes : List ℕ) × Consumes (R.remaining input.old) (R.remaining input.new) bytes
+        × Told SIZE (Replays P.replays SIZE program.old program.new) bytes result.tally }
+    ensures ended { IsFalse result.failed
+        → IsAtEnd (R.remaining input.new) ⊎ (result.tally.calls ≡ most_calls SIZE) }
+{
+    let mut run = Run {
+        tally: Tally::start(),
+        failed: false,
+    };
+    while run.tally.blocks > 0 {
+        run = next_block(input, program, run.tally);
+    }
+    run
 }

@@ -1,9 +1,8 @@
 -- P7 over areas of bytes and the exported functions: "The memory team books pages singly and in bulk and wants both to agree." Where a sentence doesn't ask for a sound area it
 -- holds of any bytes: on a damaged one each of these calls is refused with 1 and leaves every byte. Assumes nothing.
-use Rattle.std.specs.Prelude.{◌≡◌, refl, Bool, true, false, cond, ◌&&◌, List, [], ◌∷◌, map, ℕ, suc, ◌+◌, ◌^◌, ◌≤◌, ◌<◌, eqb, leb, length, get_or}
+use Rattle.std.specs.Prelude.{◌≡◌, refl, Bool, true, false, cond, ◌&&◌, List, [], ◌∷◌, map, ℕ, suc, ◌+◌, ◌^◌, ◌≤◌, ◌<◌, eqb, leb, length, get_or, Option, Some, None}
 use Rattle.std.proofs.Common.{sym, ap, subst, ◌∙◌, arith, eqb-true, eq-eqb, ne_eqb}
 use Rattle.std.proofs.lemmas.Bool.{false≢true, eqb-false}
-use Rattle.std.proofs.Math.Option.{Option, none, some}
 use Rattle.carv_area.specs.Table.{Row, at}
 use Rattle.carv_area.specs.Laws.Table.{test}
 use Rattle.carv_area.specs.Laws.Parts.{part_bytes}
@@ -112,16 +111,16 @@ module _ (i n : ℕ) (a : List ℕ) (e : Made) where
   abbrev r : Registry
   r = (decode a).registry
 
-  silent : {c : objects.Call} → Makes c a e → (reply c a).value ≡ none → e.words' ≡ e.words
+  silent : {c : objects.Call} → Makes c a e → (reply c a).value ≡ None → e.words' ≡ e.words
   silent M h = test (sound_area a)
       (λ s. let g = given M s in g.written ∙ no_value_written g.answer e.words (g.value ∙ ap lift_value h))
       (λ s. ((demand1.calls a e M.ensures).damaged M.is_lent s).words)
 
   pub charge_writes_no_word : Makes (objects.charge_more i n) a e → e.words' ≡ e.words
-  charge_writes_no_word M = silent M (asked (λ z. z.value ≡ none) (has r i) refl λ h. asked (λ z. z.value ≡ none) (leb n (free (account_of r (payer_of r i)))) refl λ k. refl)
+  charge_writes_no_word M = silent M (asked (λ z. z.value ≡ None) (has r i) refl λ h. asked (λ z. z.value ≡ None) (leb n (free (account_of r (payer_of r i)))) refl λ k. refl)
 
   pub uncharge_writes_no_word : Makes (objects.uncharge i n) a e → e.words' ≡ e.words
-  uncharge_writes_no_word M = silent M (asked (λ z. z.value ≡ none) (has r i) refl λ h. asked (λ z. z.value ≡ none) (leb n (entry r i).charge) refl λ k. refl)
+  uncharge_writes_no_word M = silent M (asked (λ z. z.value ≡ None) (has r i) refl λ h. asked (λ z. z.value ≡ None) (leb n (entry r i).charge) refl λ k. refl)
 
 -- One charge, of 0 or on a missing object, on a sound area: 0 and 7, and every byte stays.
 
@@ -293,15 +292,15 @@ limit_below : (a : List ℕ) → Bytes a → sound_area a ≡ true → (p : ℕ)
 unfolding registry_part
 limit_below a bytes s p = go (at (decode a).registry.rows p) refl
   where
-    place : (m : List (Row Entry)) (e : Entry) → at m p ≡ some e → (j : ℕ) × (j < length m) × ((get_or m j no_row).it ≡ e)
+    place : (m : List (Row Entry)) (e : Entry) → at m p ≡ Some e → (j : ℕ) × (j < length m) × ((get_or m j no_row).it ≡ e)
     place [] e h = let z : ◌≡◌ {A = ℕ} 0 1 = cc in absurd (omega arith)
     place (r ∷ m) e h = test (eqb r.id p)
-        (λ d. let q : some r.it ≡ some e = rw d at h in (0, omega arith, cc))
+        (λ d. let q : Some r.it ≡ Some e = rw d at h in (0, omega arith, cc))
         (λ d. let (j, k, q) = place m e (rw d at h) in (suc j, omega arith, q))
 
     go : (o : Option Entry) → at (decode a).registry.rows p ≡ o → (or_missing o).account.memory_limit < 2 ^ 64
-    go none h = omega arith
-    go (some e) h =
+    go None h = omega arith
+    go (Some e) h =
         let k = area_formed a s in
         let (j, within, q) = place (decode a).registry.rows e h in
         subst (λ (x : Entry). x.account.memory_limit < 2 ^ 64) q

@@ -1,22 +1,21 @@
 -- Demand 1 is proved: the C functions' contracts piece by piece, then that a refusal writes nothing and that each byte left is fixed. Assumes nothing.
-use Rattle.std.specs.Prelude.{◌≡◌, refl, Bool, true, false, cond, ◌&&◌, List, ℕ, ◌≤◌, eqb, leb, length}
+use Rattle.std.specs.Prelude.{◌≡◌, refl, Bool, true, false, cond, ◌&&◌, List, ℕ, ◌≤◌, eqb, leb, length, Option, Some, None, Result, Ok, Err}
 use Rattle.std.proofs.Common.{sym, ap, ◌∙◌, subst, true≢false, arith, ne_eqb, leb-true}
 use Rattle.carv_area.specs.Laws.Table.{test}
 use Rattle.carv_budget.specs.Account.{period}
 use Rattle.carv_budget.proofs.Laws.Account.{first, second}
-use Rattle.carv_scheduler.specs.declared.Answer.{Answer}
-use Rattle.carv_scheduler.specs.declared.Answer.TheVariants.{Refused, Done, Registry, NoSwitch, Switch, SwitchToKernel, Ended, EndedNothing, Blocked, NotBlocked, Record, Word, Cause, NoCause}
-use Rattle.carv_scheduler.specs.Answer.{number}
-use Rattle.carv_scheduler_spec.specs.Scheduler.{Board, opening}
+use Rattle.carv_objects.specs.declared.refusal.Refusal.{Refusal}
+use Rattle.carv_objects.specs.declared.refusal.Refusal.TheVariants.{Unsound, Share}
+use Rattle.carv_objects.specs.Refusal.{refusal_number}
+use Rattle.carv_objects.specs.Answer.{number}
+use Rattle.carv_scheduler_spec.specs.Scheduler.{Board, Value, opening}
+use Rattle.carv_scheduler.specs.Answer.{nothing}
+use Rattle.carv.proofs.Laws.Reporting.{told, told_answered, told_number, told_reported}
 use Rattle.carv_scheduler.specs.Area.{decode, sound_area, Is, Answered}
-use Rattle.carv.specs.C.{registry_reported, reported, Exported, ExportedWithImage, Opens, has_image, Made, Ensures, with_image, plain, lent}
+use Rattle.carv.specs.C.{itself, reported, Exported, ExportedWithImage, Opens, has_image, Made, Ensures, with_image, plain, lent}
 use Rattle.carv_scheduler_spec.specs.Book.{Call}
 use Rattle.carv_scheduler_spec.specs.Runs.{run}
 use Rattle.carv.specs.Demands.{GivenAs, NothingChanged, Bytes, NothingWritten, OfCall, OfOpening, OfImage, OfQuestion1, Demand1}
-use Rattle.std.proofs.Math.Option.{Option, none, some}
-use Rattle.carv_objects.specs.declared.Answer as registry_answers
-use Rattle.carv_objects.specs.declared.Answer.TheVariants as registry_answer
-use Rattle.carv_objects.specs.Answer as registry_numbers
 use Rattle.carv_register_image.specs.Image.{register_image}
 use Rattle.carv_scheduler.specs.Image.{Filled}
 use Rattle.carv_scheduler.specs.Laws.AreaExact.{exact}
@@ -31,7 +30,7 @@ pub record Pieces (a : List ℕ) (e : Made) : Type 0 where
   pub image : lent e ≡ true → e.image' ≡ cond (has_image e.call && eqb e.returned 0) register_image e.image
 
 -- an answer x of which `Answered` holds
-module _ (a : List ℕ) (e : Made) (x : Answer) (h : Answered (run e.call) a x e.left) (n : e.returned ≡ number x) (w : e.words' ≡ reported x e.words) where
+module _ (a : List ℕ) (e : Made) (x : Result (Option Value) Refusal) (h : Answered (run e.call) itself a x e.left) (n : e.returned ≡ number x) (w : e.words' ≡ reported itself x e.words) where
   answered_given : sound_area a ≡ true → GivenAs e (run e.call (decode a))
   answered_given s =
       let v = h.served s in
@@ -40,7 +39,7 @@ module _ (a : List ℕ) (e : Made) (x : Answer) (h : Answered (run e.call) a x e
   answered_not : sound_area a ≡ false → (e.returned ≡ 1) × (e.left ≡ a) × (e.words' ≡ e.words)
   answered_not s =
       let (q, u) = h.refused s in
-      (n ∙ ap number q, u, w ∙ ap (λ (y : Answer). reported y e.words) q)
+      (n ∙ ap number q, u, w ∙ ap (λ (y : Result (Option Value) Refusal). reported itself y e.words) q)
 
 -- demand 1 of a call with an image, and of one without
 with_image_1 : (a : List ℕ) (e : Made) → has_image e.call ≡ true → ExportedWithImage e.call a e.image e.words e.returned e.left e.image' e.words' → Pieces a e
@@ -51,17 +50,18 @@ with_image_1 a e c h =
           (λ y. let z : eqb (length e.image) 512 ≡ false = rw (is_lent, y) at n in
           let r = h.reports y in
           let (q, u, v) = r.said.size z in
-          record { number = r.number ∙ ap number q; area = u; words = r.values ∙ ap (λ (x : Answer). reported x e.words) q; image = v })
+          record { number = r.number ∙ ap number q; area = u; words = r.values ∙ ap (λ (x : Result (Unit {0}) Refusal). reported nothing x e.words) q; image = v })
           (λ y. let (q, u, v, w) = h.size y in record { number = q; area = u; words = w; image = v });
       damaged = λ y s.
           let (y₁, y₂) = parts (rw is_lent at y) in
           let r = h.reports y₁ in
-          let (q, u, w) = answered_not a e r.answer (r.said.served y₂) r.number r.values s in
+          let (q, u, w) = answered_not a e (told nothing r.answer) (told_answered nothing (run e.call) a r.answer e.left (r.said.served y₂)) (r.number ∙ sym (told_number nothing r.answer)) (r.values ∙ sym (told_reported nothing r.answer e.words)) s in
           let z : eqb (number r.answer) 0 ≡ false = rw (← r.number, q) in
           record { number = q; area = u; words = w; image = r.said.image y₂ ∙ rw z };
       served = λ y s.
           let (y₁, y₂) = parts (rw is_lent at y) in
-          let r = h.reports y₁ in answered_given a e r.answer (r.said.served y₂) r.number r.values s;
+          let r = h.reports y₁ in
+          answered_given a e (told nothing r.answer) (told_answered nothing (run e.call) a r.answer e.left (r.said.served y₂)) (r.number ∙ sym (told_number nothing r.answer)) (r.values ∙ sym (told_reported nothing r.answer e.words)) s;
       image = λ y.
           let (y₁, y₂) = parts (rw is_lent at y) in
           let r = h.reports y₁ in rw (c, r.number) (r.said.image y₂);
@@ -93,33 +93,9 @@ pieces a e (plain c h m) = plain_1 a e c h m
 
 -- A refusal's answer writes no word.
 
-registry_silent : (x : registry_answers.Answer) (out : List ℕ) → (registry_numbers.number x ≡ 0 → ⊥) → registry_reported x out ≡ out
-registry_silent registry_answer.Done out h = refl
-registry_silent (registry_answer.Id i) out h = absurd (h refl)
-registry_silent registry_answer.Renewed out h = absurd (h refl)
-registry_silent registry_answer.NotDue out h = absurd (h refl)
-registry_silent registry_answer.Pays out h = absurd (h refl)
-registry_silent registry_answer.PaysNothing out h = absurd (h refl)
-registry_silent (registry_answer.AccountOf a) out h = absurd (h refl)
-registry_silent (registry_answer.Charge p n) out h = absurd (h refl)
-registry_silent (registry_answer.TotalsOf t) out h = absurd (h refl)
-registry_silent (registry_answer.Refused n) out h = refl
-
-silent : (x : Answer) (out : List ℕ) → (number x ≡ 0 → ⊥) → reported x out ≡ out
-silent Done out h = refl
-silent (Registry r) out h = registry_silent r out h
-silent NoSwitch out h = absurd (h refl)
-silent (Switch old new root) out h = absurd (h refl)
-silent (SwitchToKernel old new) out h = absurd (h refl)
-silent (Ended w) out h = absurd (h refl)
-silent EndedNothing out h = absurd (h refl)
-silent Blocked out h = absurd (h refl)
-silent NotBlocked out h = absurd (h refl)
-silent (Record t) out h = absurd (h refl)
-silent (Word n) out h = absurd (h refl)
-silent (Cause n) out h = absurd (h refl)
-silent NoCause out h = absurd (h refl)
-silent (Refused n) out h = refl
+silent : (x : Result (Option Value) Refusal) (out : List ℕ) → (number x ≡ 0 → ⊥) → reported itself x out ≡ out
+silent (Ok v) out h = absurd (h refl)
+silent (Err n) out h = refl
 
 -- Each byte that a call leaves is fixed, and a refused one leaves them all.
 
@@ -135,7 +111,7 @@ nothing_written a e u = record {
   renewed = λ i time q r c y h b. absurd (none_some (sym (one_renews_not e.call (decode a)) ∙ ap (λ (n : ℕ). renewal_left e.call n (decode a)) (sym u.number) ∙ q));
 }
   where
-    none_some : {i time : ℕ} → ◌≡◌ {A = Option (ℕ × ℕ)} none (some (i, time)) → ⊥
+    none_some : {i time : ℕ} → ◌≡◌ {A = Option (ℕ × ℕ)} None (Some (i, time)) → ⊥
     none_some q = let z : ◌≡◌ {A = ℕ} 0 1 = cc in omega arith
 
 -- refused by another
@@ -159,8 +135,8 @@ module _ (a : List ℕ) (e : Made) (p : Pieces a e) (y : lent e ≡ true) (s : s
     area = λ q. same_bytes a e.left (decode a) x x' (record { sound = s; same = refl }) (subst (λ (o : Option (ℕ × ℕ)). Is e.left (with_renewal o (decode a))) q left_is);
     renewed = λ i time q r c z g b.
         let v = (pieces a r g).served z s in
-        let w : Is r.left (with_renewal (some (i, time)) (decode a)) = subst (λ (k : Call). Is r.left (run k (decode a)).after) c v.area in
-        same_bytes r.left e.left (with_renewal (some (i, time)) (decode a)) b x' w
+        let w : Is r.left (with_renewal (Some (i, time)) (decode a)) = subst (λ (k : Call). Is r.left (run k (decode a)).after) c v.area in
+        same_bytes r.left e.left (with_renewal (Some (i, time)) (decode a)) b x' w
         (subst (λ (o : Option (ℕ × ℕ)). Is e.left (with_renewal o (decode a))) q left_is);
   }
 
@@ -184,15 +160,15 @@ opened_is cpu memory a₀ a out out' o = test (eqb (length out) 20)
     test (eqb (length a₀) 68_144)
     (λ z. test (leb cpu period)
     (λ c. (leb-true cpu period c, (r.said.opened z c).1))
-    (λ c. absurd (none_of r.answer 2 (omega arith) r.number (r.said.share z c).0)))
-    (λ z. absurd (none_of r.answer 1 (omega arith) r.number (r.said.size z).0)))
+    (λ c. absurd (none_of r.answer Share (omega arith) r.number (r.said.share z c).0)))
+    (λ z. absurd (none_of r.answer Unsound (omega arith) r.number (r.said.size z).0)))
     (λ y. absurd (zero_one (o.size y).0))
   where
     zero_one : ◌≡◌ {A = ℕ} 0 1 → ⊥
     zero_one q = omega arith
 
-    none_of : (x : Answer) (n : ℕ) → 1 ≤ n → 0 ≡ number x → x ≡ Refused n → ⊥
-    none_of x n h q e = let z : 0 ≡ n = q ∙ ap number e in omega arith
+    none_of : (x : Result (Unit {0}) Refusal) (n : Refusal) → 1 ≤ refusal_number n → 0 ≡ number x → x ≡ Err n → ⊥
+    none_of x n h q e = let z : 0 ≡ refusal_number n = q ∙ ap number e in omega arith
 
 -- `carv_open`, by its three cases
 of_opening : (cpu memory : ℕ) (a out : List ℕ) (r : ℕ) (a' out' : List ℕ) → Opens cpu memory a out r a' out' → OfOpening cpu memory a out r a' out'
@@ -204,13 +180,13 @@ of_opening cpu memory a out r a' out' o = test (eqb (length out) 20)
     let n : r ≡ 0 = R.number ∙ ap number q in
     record {
       number = n ∙ rw (y, z, c);
-      words = R.values ∙ ap (λ (x : Answer). reported x out) q;
+      words = R.values ∙ ap (λ (x : Result (Unit {0}) Refusal). reported nothing x out) q;
       refused = λ h. absurd (h n);
       opened = λ _. i;
       exact = λ _ x b x' k. same_bytes a' b (opening cpu memory) x x' i k;
     })
-    (λ c. let (q, u) = R.said.share z c in refused_as (R.number ∙ ap number q ∙ rw (y, z, c)) (R.number ∙ ap number q) (omega arith) u (R.values ∙ ap (λ (x : Answer). reported x out) q)))
-    (λ z. let (q, u) = R.said.size z in refused_as (R.number ∙ ap number q ∙ rw (y, z)) (R.number ∙ ap number q) (omega arith) u (R.values ∙ ap (λ (x : Answer). reported x out) q)))
+    (λ c. let (q, u) = R.said.share z c in refused_as (R.number ∙ ap number q ∙ rw (y, z, c)) (R.number ∙ ap number q) (omega arith) u (R.values ∙ ap (λ (x : Result (Unit {0}) Refusal). reported nothing x out) q)))
+    (λ z. let (q, u) = R.said.size z in refused_as (R.number ∙ ap number q ∙ rw (y, z)) (R.number ∙ ap number q) (omega arith) u (R.values ∙ ap (λ (x : Result (Unit {0}) Refusal). reported nothing x out) q)))
     (λ y. let (n, u, w) = o.size y in refused_as (n ∙ rw y) n (omega arith) u w)
   where
     refused_as : {n : ℕ} → r ≡ cond (eqb (length out) 20 && eqb (length a) 68_144) (cond (leb cpu period) 0 2) 1 → r ≡ n → 1 ≤ n → a' ≡ a → out' ≡ out → OfOpening cpu memory a out r a' out'

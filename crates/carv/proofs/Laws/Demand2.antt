@@ -3,7 +3,7 @@ use Rattle.std.specs.Prelude.{◌≡◌, refl, true, false, List, [], ◌∷◌,
 use Rattle.std.proofs.Common.{sym, ap, ◌∙◌, subst, true≢false}
 use Rattle.carv_area.specs.Laws.Table.{test}
 use Rattle.carv_objects_spec.specs.Book as objects
-use Rattle.carv_scheduler.specs.Answer.{number}
+use Rattle.carv_objects.specs.Answer.{number}
 use Rattle.carv_scheduler_spec.specs.Scheduler.{Board, BoardReply, opening}
 use Rattle.carv_scheduler_spec.specs.Rust as rust
 use Rattle.carv_scheduler_spec.proofs.Laws.Refines as refines

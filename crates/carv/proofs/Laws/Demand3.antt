@@ -1,8 +1,7 @@
 -- Demand 3 is proved: a list of calls is followed on the definitions, by those of its calls that were lent areas of their length. Assumes nothing.
-use Rattle.std.specs.Prelude.{◌≡◌, refl, true, false, cond, List, [], ◌∷◌, ◌++◌, ℕ, ◌≤◌, eqb}
+use Rattle.std.specs.Prelude.{◌≡◌, refl, true, false, cond, List, [], ◌∷◌, ◌++◌, ℕ, ◌≤◌, eqb, Some}
 use Rattle.std.proofs.Common.{sym, ap, ◌∙◌, subst, arith}
 use Rattle.std.proofs.lemmas.Bool.{false≢true}
-use Rattle.std.proofs.Math.Option.{some}
 use Rattle.carv_area.specs.Laws.Table.{test}
 use Rattle.carv_budget.specs.Account.{period}
 use Rattle.carv_objects_spec.specs.declared.Totals.{Totals}
@@ -13,7 +12,7 @@ use Rattle.carv_objects_spec.specs.Book as objects
 use Rattle.carv_objects_spec.specs.BookTotals.{totals_of}
 use Rattle.carv_objects_spec.proofs.Laws.Questions.{read_totals_missing, read_totals_done}
 use Rattle.carv_objects_spec.specs.Book.{Differences, is_live, budget_of}
-use Rattle.carv_scheduler.specs.Answer.{number}
+use Rattle.carv_objects.specs.Answer.{number}
 use Rattle.carv_scheduler_spec.specs.Scheduler.{Board, BoardReply, opening, of_registry, on_registry}
 use Rattle.carv_scheduler.specs.Area.{decode, sound_area, Is}
 use Rattle.carv.specs.C.{Opens, Made, Ensures, lent}
@@ -133,7 +132,7 @@ module _ (cpu memory : ℕ) (a₀ a out out' : List ℕ) (o : Opens cpu memory a
 
   -- a reading of totals at the end of a run
   totals_are : (front : List Made) → Ran front a → AllWords front → (e : Made) → Ensures (last front a) e → (i : ℕ) → e.call ≡ on_objects (objects.read_totals i) → e.returned ≡ 0
-      → GivenAs e (accept (some (of_registry (of_totals (totals_of (booked front cpu memory).objects i)))) (decode (last front a)))
+      → GivenAs e (accept (Some (of_registry (of_totals (totals_of (booked front cpu memory).objects i)))) (decode (last front a)))
   totals_are front h f e m i q r =
       let d = pieces (last front a) e m in
       let y : lent e ≡ true = test (lent e) (λ y. y) (λ y. absurd (not_accepted (sym r ∙ (d.lengths y).number) refl)) in
@@ -147,7 +146,7 @@ module _ (cpu memory : ℕ) (a₀ a out out' : List ℕ) (o : Opens cpu memory a
       ∙ (definitions_3.demand3 (lent_calls front) cpu memory share (served_fit front f)).totals i
       ∙ ap (λ (k : Book). totals_of k.objects i) (sym (book_is front h)) in
       subst (GivenAs e)
-      (ap (λ (z : RegistryReply). on_registry z b) (read_totals_done i b.registry live) ∙ ap (λ (t : Totals). accept (some (of_registry (of_totals t))) b) same) g
+      (ap (λ (z : RegistryReply). on_registry z b) (read_totals_done i b.registry live) ∙ ap (λ (t : Totals). accept (Some (of_registry (of_totals t))) b) same) g
     where
       not_accepted : {n : ℕ} → 0 ≡ n → (eqb n 0 ≡ false → ⊥)
       not_accepted q h = false≢true (sym h ∙ ap (λ (n : ℕ). eqb n 0) (sym q))

@@ -1,7 +1,6 @@
 -- P3 is proved over exported calls: the ledger of a list is that of its calls that were lent areas of their length, and the clock of these doesn't fall either. Assumes nothing.
-use Rattle.std.specs.Prelude.{◌≡◌, refl, true, List, [], ◌∷◌, ◌++◌, map, ℕ, ◌≤◌}
+use Rattle.std.specs.Prelude.{◌≡◌, refl, true, List, [], ◌∷◌, ◌++◌, map, ℕ, ◌≤◌, Option, Some, None}
 use Rattle.std.proofs.Common.{sym, ap, ◌∙◌, subst}
-use Rattle.std.proofs.Math.Option.{Option, none, some}
 use Rattle.carv_area.specs.Laws.Table.{test}
 use Rattle.carv_objects_spec.specs.Registry.{is_budget}
 use Rattle.carv_objects_spec.specs.Noted.{Adds, charged_to, Accounted}
@@ -34,8 +33,8 @@ served_noted (e ∷ es) a s h k l = test (lent e)
 
 -- the clock of the calls served
 go_on : (T : ℕ) (o : Option ℕ) (ts ts' : List (Option ℕ)) → ((t : ℕ) → NeverFall t ts → NeverFall t ts') → NeverFall T (o ∷ ts) → NeverFall T (o ∷ ts')
-go_on T none ts ts' f h = f T h
-go_on T (some t) ts ts' f h = (h.0, f t h.1)
+go_on T None ts ts' f h = f T h
+go_on T (Some t) ts ts' f h = (h.0, f t h.1)
 
 served_rise : (es : List Made) (a : List ℕ) → sound_area a ≡ true → Ran es a → (T : ℕ) → NeverFall T (map moving_clock (told es))
     → NeverFall T (map moving_clock (numbers (lent_calls es) (decode a)))

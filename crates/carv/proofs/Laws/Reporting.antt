@@ -1,103 +1,90 @@
 -- From an entry point of the board to its C function. Assumes nothing.
-use Rattle.std.specs.Prelude.{◌≡◌, refl, List, ℕ, length}
-use Rattle.std.proofs.Common.{ap, arith, eqb-true}
-use Rattle.std.proofs.Math.Option.{none, some}
+use Rattle.std.specs.Prelude.{◌≡◌, refl, List, [], ℕ, length, Option, Some, None, Result, Ok, Err}
+use Rattle.std.proofs.Common.{ap, sym, ◌∙◌}
 use Rattle.std.proofs.lemmas.List.Edits.{sets}
 use Rattle.std.proofs.lemmas.Bool.{eqb-false}
 use Rattle.carv_objects_spec.specs.declared.Totals.{Totals}
 use Rattle.carv_objects_spec.specs.Reply.{of_totals}
-use Rattle.carv_objects.specs.declared.Answer as registry
-use Rattle.carv_objects.specs.declared.Answer.TheVariants as of
-use Rattle.carv_objects.specs.Answer as registry_answer
+use Rattle.carv_objects.specs.declared.refusal.Refusal.{Refusal}
+use Rattle.carv_objects.specs.Answer.{number}
 use Rattle.carv_scheduler_spec.specs.Scheduler.{Board, BoardReply, Value, of_registry}
-use Rattle.carv_scheduler.specs.declared.Answer.{Answer}
-use Rattle.carv_scheduler.specs.declared.Answer.TheVariants.{Done, Registry, NoSwitch, Switch, SwitchToKernel, Ended, EndedNothing, Blocked, NotBlocked, Record, Word, Cause, NoCause, Refused}
-use Rattle.carv_scheduler.specs.Answer.{number, value}
+use Rattle.carv_scheduler.specs.Answer.{value, nothing}
+use Rattle.carv_scheduler.specs.Area.{Answered, Opened}
 use Rattle.carv_scheduler.specs.Creating.{Created}
-use Rattle.carv.specs.C.{totals_words, registry_reported, reported, Returns, CreatesInC}
+use Rattle.carv.specs.C.{totals_words, told_words, written, reported, itself, Called, Opens, CreatesInC}
 
--- `report`, where the answer x is y
-pub reported_as : (x y : Answer) → x ≡ y → (r : ℕ) (out out' : List ℕ) → r ≡ number y → out' ≡ reported y out → (r ≡ number x) × (out' ≡ reported x out)
-reported_as x y e r out out' p q = rw e (p, q)
+-- an answer by the values that it tells
+pub told : {T : Type 0} → (T → Option Value) → Result T Refusal → Result (Option Value) Refusal
+told tells (Ok x) = Ok (tells x)
+told tells (Err n) = Err n
 
-pub registry_reported_as : (x y : registry.Answer) → x ≡ y → (r : ℕ) (out out' : List ℕ) → r ≡ registry_answer.number y → out' ≡ registry_reported y out
-    → (r ≡ registry_answer.number x) × (out' ≡ registry_reported x out)
-registry_reported_as x y e r out out' p q = rw e (p, q)
+module _ {T : Type 0} (tells : T → Option Value) where
+  pub told_number : (x : Result T Refusal) → number (told tells x) ≡ number x
+  unfolding told
+  told_number (Ok x) = refl
+  told_number (Err n) = refl
 
-module _ (says : Answer → List ℕ → Type 0) (a out : List ℕ) where
-  -- the answer words are not 20
-  pub returned_one : (length out ≡ 20 → ⊥) → Returns says a out 1 a out
-  returned_one n = record { size = λ q. (refl, refl, refl); reports = λ q. absurd (n (eqb-true (length out) 20 q)) }
+  told_value : (x : Result T Refusal) → value itself (told tells x) ≡ value tells x
+  unfolding told
+  told_value (Ok x) = refl
+  told_value (Err n) = refl
 
-  -- the answer x is reported
-  pub returned : length out ≡ 20 → (x : Answer) (a' : List ℕ) → says x a' → (r : ℕ) (out' : List ℕ) → (r ≡ number x) × (out' ≡ reported x out) → Returns says a out r a' out'
-  returned e x a' h r out' p = record {
-    size = λ q. absurd (eqb-false (length out) 20 q e);
-    reports = λ q. record { answer = x; said = h; number = p.0; values = p.1 };
+  pub told_reported : (x : Result T Refusal) (out : List ℕ) → reported itself (told tells x) out ≡ reported tells x out
+  unfolding told
+  told_reported (Ok x) out = refl
+  told_reported (Err n) out = refl
+
+  told_refused : (x : Result T Refusal) (n : Refusal) → x ≡ Err n → told tells x ≡ Err n
+  unfolding told
+  told_refused x n e = rw e
+
+  pub told_answered : (call : Board → BoardReply) (a : List ℕ) (x : Result T Refusal) (a' : List ℕ) → Answered call tells a x a' → Answered call itself a (told tells x) a'
+  told_answered call a x a' h = record {
+    refused = λ s. (let (q, u) = h.refused s in (told_refused x _ q, u));
+    served = λ s. (let v = h.served s in record { number = told_number x ∙ v.number; value = told_value x ∙ v.value; area = v.area });
   }
+
+  -- the words that are written are those of the value that is told
+  pub written_told : (words : T → List ℕ) → ((x : T) → told_words (tells x) ≡ words x) → (x : Result T Refusal) (out : List ℕ) → written words x out ≡ reported tells x out
+  written_told words e (Ok x) out = ap (sets out 0) (sym (e x))
+  written_told words e (Err n) out = refl
+
+-- the answer x of a call is reported
+pub returned : {T : Type 0} {tells : T → Option Value} {words : T → List ℕ} → ((x : T) → told_words (tells x) ≡ words x) → (call : Board → BoardReply) (a out : List ℕ) → length out ≡ 20
+    → (x : Result T Refusal) (a' : List ℕ) → Answered call tells a x a' → (r : ℕ) (out' : List ℕ) → (r ≡ number x) × (out' ≡ written words x out) → Called call a out r a' out'
+returned {T = T} {tells = tells} {words = words} w call a out e x a' h r out' p = record {
+  size = λ q. absurd (eqb-false (length out) 20 q e);
+  reports = λ q. record {
+    answer = told tells x;
+    said = told_answered tells call a x a' h;
+    number = p.0 ∙ sym (told_number tells x);
+    values = p.1 ∙ written_told tells words w x out ∙ sym (told_reported tells x out);
+  };
+}
+
+-- and of an opening
+pub returned_opened : (cpu memory : ℕ) (a out : List ℕ) → length out ≡ 20 → (x : Result (Unit {0}) Refusal) (a' : List ℕ) → Opened cpu memory a x a'
+    → (r : ℕ) (out' : List ℕ) → (r ≡ number x) × (out' ≡ written (λ u. []) x out) → Opens cpu memory a out r a' out'
+returned_opened cpu memory a out e x a' h r out' p = record {
+  size = λ q. absurd (eqb-false (length out) 20 q e);
+  reports = λ q. record { answer = x; said = h; number = p.0; values = p.1 ∙ written_told nothing (λ u. []) (λ u. refl) x out };
+}
 
 -- the same of a call that is lent a register image
 module _ (call : Board → BoardReply) (a m out : List ℕ) where
-  pub c_created_size : (length out ≡ 20 → ⊥) → CreatesInC call a m out 1 a m out
-  c_created_size n = record { size = λ q. (refl, refl, refl, refl); reports = λ q. absurd (n (eqb-true (length out) 20 q)) }
-
-  pub c_created : length out ≡ 20 → (x : Answer) (a' m' : List ℕ) → Created call a m x a' m' → (r : ℕ) (out' : List ℕ) → (r ≡ number x) × (out' ≡ reported x out) → CreatesInC call a m out r a' m' out'
+  pub c_created : length out ≡ 20 → (x : Result (Unit {0}) Refusal) (a' m' : List ℕ) → Created call a m x a' m' → (r : ℕ) (out' : List ℕ) → (r ≡ number x) × (out' ≡ written (λ u. []) x out)
+      → CreatesInC call a m out r a' m' out'
   c_created e x a' m' h r out' p = record {
     size = λ q. absurd (eqb-false (length out) 20 q e);
-    reports = λ q. record { answer = x; said = h; number = p.0; values = p.1 };
+    reports = λ q. record { answer = x; said = h; number = p.0; values = p.1 ∙ written_told nothing (λ u. []) (λ u. refl) x out };
   }
 
 -- P1: an answer whose value is a budget's totals is reported in the first three answer words
-pub totals_written : (x : Answer) (t : Totals) (out : List ℕ) → value x ≡ some (of_registry (of_totals t)) → reported x out ≡ sets out 0 (totals_words t)
-totals_written (Registry of.Done) t out h = let z : ◌≡◌ {A = ℕ} 0 1 = cc in absurd (omega arith)
-totals_written (Registry (of.Id i)) t out h = let z : ◌≡◌ {A = ℕ} 0 1 = cc in absurd (omega arith)
-totals_written (Registry of.Renewed) t out h = let z : ◌≡◌ {A = ℕ} 0 1 = cc in absurd (omega arith)
-totals_written (Registry of.NotDue) t out h = let z : ◌≡◌ {A = ℕ} 0 1 = cc in absurd (omega arith)
-totals_written (Registry of.Pays) t out h = let z : ◌≡◌ {A = ℕ} 0 1 = cc in absurd (omega arith)
-totals_written (Registry of.PaysNothing) t out h = let z : ◌≡◌ {A = ℕ} 0 1 = cc in absurd (omega arith)
-totals_written (Registry (of.AccountOf a)) t out h = let z : ◌≡◌ {A = ℕ} 0 1 = cc in absurd (omega arith)
-totals_written (Registry (of.Charge p n)) t out h = let z : ◌≡◌ {A = ℕ} 0 1 = cc in absurd (omega arith)
-totals_written (Registry (of.TotalsOf s)) t out h = let q : s ≡ t = cc in ap (λ (x : Totals). sets out 0 (totals_words x)) q
-totals_written (Registry (of.Refused n)) t out h = let z : ◌≡◌ {A = ℕ} 0 1 = cc in absurd (omega arith)
-totals_written Done t out h = let z : ◌≡◌ {A = ℕ} 0 1 = cc in absurd (omega arith)
-totals_written NoSwitch t out h = let z : ◌≡◌ {A = ℕ} 0 1 = cc in absurd (omega arith)
-totals_written (Switch old new root) t out h = let z : ◌≡◌ {A = ℕ} 0 1 = cc in absurd (omega arith)
-totals_written (SwitchToKernel old new) t out h = let z : ◌≡◌ {A = ℕ} 0 1 = cc in absurd (omega arith)
-totals_written (Ended w) t out h = let z : ◌≡◌ {A = ℕ} 0 1 = cc in absurd (omega arith)
-totals_written EndedNothing t out h = let z : ◌≡◌ {A = ℕ} 0 1 = cc in absurd (omega arith)
-totals_written Blocked t out h = let z : ◌≡◌ {A = ℕ} 0 1 = cc in absurd (omega arith)
-totals_written NotBlocked t out h = let z : ◌≡◌ {A = ℕ} 0 1 = cc in absurd (omega arith)
-totals_written (Record s) t out h = let z : ◌≡◌ {A = ℕ} 0 1 = cc in absurd (omega arith)
-totals_written (Word n) t out h = let z : ◌≡◌ {A = ℕ} 0 1 = cc in absurd (omega arith)
-totals_written (Cause n) t out h = let z : ◌≡◌ {A = ℕ} 0 1 = cc in absurd (omega arith)
-totals_written NoCause t out h = let z : ◌≡◌ {A = ℕ} 0 1 = cc in absurd (omega arith)
-totals_written (Refused n) t out h = let z : ◌≡◌ {A = ℕ} 0 1 = cc in absurd (omega arith)
-
-some_none : {v : Value} → some v ≡ none → ⊥
-some_none h = let z : ◌≡◌ {A = ℕ} 0 1 = cc in omega arith
+pub totals_written : (x : Result (Option Value) Refusal) (t : Totals) (out : List ℕ) → value itself x ≡ Some (of_registry (of_totals t)) → reported itself x out ≡ sets out 0 (totals_words t)
+totals_written (Ok v) t out h = ap (λ (w : Option Value). sets out 0 (told_words w)) h
+totals_written (Err n) t out h = absurd (cc h)
 
 -- an answer without a value writes no answer word
-pub no_value_written : (x : Answer) (out : List ℕ) → value x ≡ none → reported x out ≡ out
-no_value_written (Registry of.Done) out h = refl
-no_value_written (Registry (of.Id i)) out h = absurd (some_none h)
-no_value_written (Registry of.Renewed) out h = absurd (some_none h)
-no_value_written (Registry of.NotDue) out h = absurd (some_none h)
-no_value_written (Registry of.Pays) out h = absurd (some_none h)
-no_value_written (Registry of.PaysNothing) out h = absurd (some_none h)
-no_value_written (Registry (of.AccountOf a)) out h = absurd (some_none h)
-no_value_written (Registry (of.Charge p n)) out h = absurd (some_none h)
-no_value_written (Registry (of.TotalsOf s)) out h = absurd (some_none h)
-no_value_written (Registry (of.Refused n)) out h = refl
-no_value_written Done out h = refl
-no_value_written NoSwitch out h = absurd (some_none h)
-no_value_written (Switch old new root) out h = absurd (some_none h)
-no_value_written (SwitchToKernel old new) out h = absurd (some_none h)
-no_value_written (Ended w) out h = absurd (some_none h)
-no_value_written EndedNothing out h = absurd (some_none h)
-no_value_written Blocked out h = absurd (some_none h)
-no_value_written NotBlocked out h = absurd (some_none h)
-no_value_written (Record s) out h = absurd (some_none h)
-no_value_written (Word n) out h = absurd (some_none h)
-no_value_written (Cause n) out h = absurd (some_none h)
-no_value_written NoCause out h = absurd (some_none h)
-no_value_written (Refused n) out h = refl
+pub no_value_written : (x : Result (Option Value) Refusal) (out : List ℕ) → value itself x ≡ None → reported itself x out ≡ out
+no_value_written (Ok v) out h = ap (λ (w : Option Value). sets out 0 (told_words w)) h
+no_value_written (Err n) out h = refl

@@ -1,8 +1,7 @@
 -- The demands over exported calls, sentence by sentence: each theorem is drawn from `demand1`, `demand2` or `demand3`, with the fields written out. A claim that said less would
 -- be refused here. Beside them P1's, P2's, P3's and P12's sentences, which also rest on what is proved of the definitions, or speak of any sound area. Assumes nothing.
-use Rattle.std.specs.Prelude.{◌≡◌, refl, Bool, true, false, cond, not, ◌&&◌, ◌||◌, List, [], ◌∷◌, ◌++◌, map, ℕ, ◌+◌, ◌-◌, ◌%◌, ◌<◌, ◌≤◌, eqb, leb, length, get_or}
+use Rattle.std.specs.Prelude.{◌≡◌, refl, Bool, true, false, cond, not, ◌&&◌, ◌||◌, List, [], ◌∷◌, ◌++◌, map, ℕ, ◌+◌, ◌-◌, ◌%◌, ◌<◌, ◌≤◌, eqb, leb, length, get_or, Option, Some, None, Result, Ok, Err}
 use Rattle.std.proofs.Common.{sym, ap, subst, ◌∙◌, arith, eqb-true, eq-eqb, ne_eqb}
-use Rattle.std.proofs.Math.Option.{Option, none, some}
 use Rattle.std.proofs.lemmas.List.Edits.{sets}
 use Rattle.carv_area.specs.Table.{Row, at}
 use Rattle.carv_area.specs.Laws.Table.{test}
@@ -13,7 +12,9 @@ use Rattle.carv_objects_spec.specs.Registry.{account_of, entry, has, is_budget, 
 use Rattle.carv_objects_spec.specs.Question15.{remove_asking_15}
 use Rattle.carv_objects_spec.specs.Totals as reading
 use Rattle.carv_objects_spec.specs.Reply.{without_answer}
+use Rattle.carv_objects_spec.specs.Kinds.{is_budget_kind}
 use Rattle.carv_objects_spec.specs.Rust as objects_rust
+use Rattle.carv_objects_spec.specs.Kinds.{is_budget_kind}
 use Rattle.carv_objects_spec.specs.Book as objects
 use Rattle.carv_objects_spec.specs.Book.{Budget, Figures, budget_of, figures, is_live}
 use Rattle.carv_objects_spec.specs.BookTotals.{summed, totals_of}
@@ -28,15 +29,16 @@ use Rattle.carv_objects_spec.proofs.Laws.Question15 as question_15
 use Rattle.carv_objects_spec.proofs.Laws.Totals.{memory_total, cpu_total, root_total}
 use Rattle.carv_objects_spec.proofs.Laws.Removal as removal
 use Rattle.carv_objects_spec.proofs.Laws.Removal.{Released, Credited, budget_removed, object_removed}
-use Rattle.carv_scheduler.specs.declared.Answer.{Answer}
+use Rattle.carv_objects.specs.declared.refusal.Refusal.{Refusal}
 use Rattle.carv_objects_spec.specs.Panics as panics
 use Rattle.carv_objects_spec.specs.Runs.{line}
-use Rattle.carv_scheduler.specs.Answer.{number, value}
+use Rattle.carv_objects.specs.Answer.{number}
+use Rattle.carv_scheduler.specs.Answer.{value}
 use Rattle.carv_scheduler.specs.Area.{decode, sound_area}
 use Rattle.carv_scheduler.specs.Laws.AreaLaws.{area_sound}
 use Rattle.carv_register_image.specs.Image.{register_image}
 use Rattle.carv_scheduler.specs.Image.{Filled}
-use Rattle.carv_scheduler_spec.specs.Scheduler.{Board, BoardReply, opening}
+use Rattle.carv_scheduler_spec.specs.Scheduler.{Board, BoardReply, Value, opening}
 use Rattle.carv_scheduler_spec.specs.Book.{Call, on_objects, create_user_thread, start, block_current, wake, is_blocked_on, kill, tick, plan, read_thread, read_current, read_switches, exit_of}
 use Rattle.carv_scheduler_spec.specs.Runs.{run, Numbered}
 use Rattle.carv_scheduler_spec.specs.Ledger.{ledger_from, clock, moving_clock}
@@ -47,7 +49,7 @@ use Rattle.carv_scheduler_spec.proofs.Laws.Demand1.{leaves}
 use Rattle.carv_scheduler_spec.specs.Demand2.{rust_run, in_rust}
 use Rattle.carv_scheduler_spec.proofs.Laws.Demand2.{compared_after}
 use Rattle.carv_scheduler_spec.specs.Demand3.{Planned}
-use Rattle.carv.specs.C.{reported, Opens, has_image, Made, Ensures, lent}
+use Rattle.carv.specs.C.{itself, reported, Opens, has_image, Made, Ensures, lent}
 use Rattle.carv.specs.Demands.{Ran, last, GivenAs, GivenAsRust, AsRust, NoneAdded, AllWords, told, booked}
 use Rattle.carv.specs.Overspending.{noted, WithinAllowances}
 use Rattle.carv.proofs.Laws.Reporting.{totals_written}
@@ -58,7 +60,7 @@ use Rattle.carv.proofs.Laws.Overspending.{no_period_overspent, no_period_overspe
 
 -- How a call is answered: the number, the values in the answer words, the board that the area says.
 pub answered_as : (e : Made) (z : BoardReply) → GivenAs e z
-    → (e.returned ≡ z.number) × ((x : Answer) × (e.returned ≡ number x) × (value x ≡ z.value) × (e.words' ≡ reported x e.words))
+    → (e.returned ≡ z.number) × ((x : Result (Option Value) Refusal) × (e.returned ≡ number x) × (value itself x ≡ z.value) × (e.words' ≡ reported itself x e.words))
     × (sound_area e.left ≡ true) × (decode e.left ≡ z.after)
 answered_as e z g = (g.number, (g.answer, g.returned, g.value, g.written), g.area.sound, g.area.same)
 
@@ -101,7 +103,7 @@ module _ (a : List ℕ) (e : Made) (h : Ensures a e) where
     pub refused_leaves_bytes : (e.returned ≡ 12 → ⊥) → e.left ≡ a
     refused_leaves_bytes d = ((demand1.calls a e h).refused n x x').area (no_renewal e.call e.returned (decode a) d)
       where
-        of_registry : (c : objects.Call) (n : ℕ) (r : Registry) → (n ≡ 12 → ⊥) → objects_demand1.renewal_left c n r ≡ none
+        of_registry : (c : objects.Call) (n : ℕ) (r : Registry) → (n ≡ 12 → ⊥) → objects_demand1.renewal_left c n r ≡ None
         of_registry (objects.create kind payer backing) n r d = refl
         of_registry (objects.insert kind payer bytes) n r d = refl
         of_registry (objects.create_budget parent cpu memory time) n r d = rw (ne_eqb n 12 d)
@@ -115,7 +117,7 @@ module _ (a : List ℕ) (e : Made) (h : Ensures a e) where
         of_registry (objects.charge_of i) n r d = refl
         of_registry (objects.read_totals i) n r d = refl
 
-        no_renewal : (c : Call) (n : ℕ) (b : Board) → (n ≡ 12 → ⊥) → renewal_left c n b ≡ none
+        no_renewal : (c : Call) (n : ℕ) (b : Board) → (n ≡ 12 → ⊥) → renewal_left c n b ≡ None
         no_renewal (on_objects c) n b d = of_registry c n b.registry d
         no_renewal (create_user_thread i budget stack) n b d = refl
         no_renewal (start i space cspace root context) n b d = refl
@@ -256,14 +258,14 @@ module _ (a : List ℕ) (e : Made) (h : Ensures a e) where
     -- "Root totals are the totals over all live budgets"
     pub root_totals : i ≡ 1 → e.words' ≡ sets e.words 0 (reading.over_all reading.used registry ∷ reading.over_all reading.free registry ∷ reading.over_all reading.left registry ∷ [])
     root_totals q =
-        let live : is_budget registry i ≡ true = rw q (eq-eqb _ 6 (area_sound a s).registry.root) in
+        let live : is_budget registry i ≡ true = rw q (ap is_budget_kind (area_sound a s).registry.root) in
         let S = (area_sound a s).registry in
         totals_told live ∙ rw (q, root_total registry S reading.used, root_total registry S reading.free, root_total registry S reading.left)
 
 -- P12, demand 2: on no sound area does the Rust's removal come to `InvalidMethod`, which would be told as 15, nor does carv-os' own
 pub rust_returns : (a : List ℕ) → sound_area a ≡ true → (i time : ℕ)
-    → ((objects_rust.remove i time (decode a).registry).result ≡ objects_rust.err objects_rust.invalid_method → ⊥)
-    × ((objects_rust.remove_unrenewed i (decode a).registry).result ≡ objects_rust.err objects_rust.invalid_method → ⊥)
+    → ((objects_rust.remove i time (decode a).registry).result ≡ Err objects_rust.invalid_method → ⊥)
+    × ((objects_rust.remove_unrenewed i (decode a).registry).result ≡ Err objects_rust.invalid_method → ⊥)
 rust_returns a s i time = question_15.rust_returns i time (decode a).registry (sound_shown (decode a).registry (area_sound a s).registry)
 
 -- P12: "from every sound state a removal that reaches question 15 passes it, and .. its payer is live": of any sound area, whatever calls led to it or none
@@ -282,7 +284,7 @@ module _ (a : List ℕ) (s : sound_area a ≡ true) (i : ℕ) (there : has (deco
   child_returnable = question_15.child_returnable i here there not_root pays_nothing (sound_shown here (area_sound a s).registry)
 
   -- the Rust's removal goes through there, at any time, and so does carv-os' own
-  pub rust_goes_through : (time : ℕ) → ((objects_rust.remove i time here).result ≡ objects_rust.ok tt) × ((objects_rust.remove_unrenewed i here).result ≡ objects_rust.ok tt)
+  pub rust_goes_through : (time : ℕ) → ((objects_rust.remove i time here).result ≡ Ok tt) × ((objects_rust.remove_unrenewed i here).result ≡ Ok tt)
   rust_goes_through time =
       question_15.rust_goes_through i time here (sound_shown here (area_sound a s).registry) (question_15.reached i here there not_root pays_nothing)
 
@@ -400,17 +402,17 @@ module _ (cpu memory : ℕ) (a₀ a out out' : List ℕ) (o : Opens cpu memory a
   -- "Take clock values that never fall over the whole history, and periods of 10 ms counted from time 0. In each, the CPU charged to a budget and to all below it, those removed
   -- meanwhile included, is at most that budget's allowance. This is to be shown for every budget in every history": for every budget that is live after the first calls of the
   -- history, front, however many these are
-  pub overspends_no_period : ((front mid rest : List (Option ℕ)) (t u : ℕ) → map (λ (e : Made). clock e.call) es ≡ front ++ (some t ∷ (mid ++ (some u ∷ rest))) → t ≤ u) → (front rest : List Made) → es ≡ front ++ rest
+  pub overspends_no_period : ((front mid rest : List (Option ℕ)) (t u : ℕ) → map (λ (e : Made). clock e.call) es ≡ front ++ (Some t ∷ (mid ++ (Some u ∷ rest))) → t ≤ u) → (front rest : List Made) → es ≡ front ++ rest
       → (i : ℕ) → is_budget (decode (last front a)).registry i ≡ true
       → (p : ℕ) → spent (ledger_from (told es) cpu memory) p i ≤ (account_of (decode (last front a)).registry i).cpu_allowance
   overspends_no_period rise front rest q i live =
       ((no_period_overspent_by_clock cpu memory a₀ a out out' o es h f (subst (NeverFall 0) (map_told (λ (n : Numbered). clock n.call) es) (never_falls_shown (map (λ (e : Made). clock e.call) es) rise))
       ).live front rest q i live).allowed
 
-  module _ (rise : (front mid rest : List (Option ℕ)) (t u : ℕ) → map (λ (e : Made). cond (eqb e.returned 0 || eqb e.returned 12) (clock e.call) none) es ≡ front ++ (some t ∷ (mid ++ (some u ∷ rest))) → t ≤ u) where
+  module _ (rise : (front mid rest : List (Option ℕ)) (t u : ℕ) → map (λ (e : Made). cond (eqb e.returned 0 || eqb e.returned 12) (clock e.call) None) es ≡ front ++ (Some t ∷ (mid ++ (Some u ∷ rest))) → t ≤ u) where
     -- for every list of calls whose clock values, of calls accepted or refused with 12, are such that of any two the later one is not below the earlier one
     allowances : WithinAllowances es a cpu memory
-    allowances = no_period_overspent cpu memory a₀ a out out' o es h f (subst (NeverFall 0) (map_told moving_clock es) (never_falls_shown (map (λ (e : Made). cond (eqb e.returned 0 || eqb e.returned 12) (clock e.call) none) es) rise))
+    allowances = no_period_overspent cpu memory a₀ a out out' o es h f (subst (NeverFall 0) (map_told moving_clock es) (never_falls_shown (map (λ (e : Made). cond (eqb e.returned 0 || eqb e.returned 12) (clock e.call) None) es) rise))
 
     -- the same, where only calls that are accepted or refused with 12 are asked for their clock values
     pub overspends_no_period_moving : (front rest : List Made) → es ≡ front ++ rest → (i : ℕ) → is_budget (decode (last front a)).registry i ≡ true
@@ -418,26 +420,26 @@ module _ (cpu memory : ℕ) (a₀ a out out' : List ℕ) (o : Opens cpu memory a
     overspends_no_period_moving front rest q i live = (allowances.live front rest q i live).allowed
 
     -- every budget of the ledger, removed or not
-    pub none_carved_overspends : (b : ℕ) (x : Carved) → at (ledger_from (told es) cpu memory).budgets b ≡ some x → (p : ℕ) → spent (ledger_from (told es) cpu memory) p b ≤ x.allowance
+    pub none_carved_overspends : (b : ℕ) (x : Carved) → at (ledger_from (told es) cpu memory).budgets b ≡ Some x → (p : ℕ) → spent (ledger_from (told es) cpu memory) p b ≤ x.allowance
     none_carved_overspends = allowances.carved
 
     -- those that were live are in it, as they were on the board, and "below" is P1's, removed since or not
     pub live_in_ledger : (front rest : List Made) → es ≡ front ++ rest → (i : ℕ) → is_budget (decode (last front a)).registry i ≡ true
         → (at (ledger_from (told es) cpu memory).budgets i
-        ≡ some (record { parent = payer_of (decode (last front a)).registry i; allowance = (account_of (decode (last front a)).registry i).cpu_allowance }))
+        ≡ Some (record { parent = payer_of (decode (last front a)).registry i; allowance = (account_of (decode (last front a)).registry i).cpu_allowance }))
         × ((b : ℕ) → under (ledger_from (told es) cpu memory).budgets b i ≡ objects_within.within (decode (last front a)).registry b i)
     live_in_ledger front rest q i live = let E = allowances.live front rest q i live in (E.listed, E.below)
 
   -- nothing is struck out of the ledger, budgets and charges; and each charge that a call adds is noted at its clock value
   pub nothing_struck_out : (e : Made) → ((bs : List (Row Carved)) × ((ledger_from (told (es ++ (e ∷ []))) cpu memory).budgets ≡ bs ++ (ledger_from (told es) cpu memory).budgets))
       × ((xs : List Charge) × ((ledger_from (told (es ++ (e ∷ []))) cpu memory).charges ≡ xs ++ (ledger_from (told es) cpu memory).charges)
-      × ((front rest : List Charge) (x : Charge) → xs ≡ front ++ (x ∷ rest) → clock e.call ≡ some x.time))
+      × ((front rest : List Charge) (x : Charge) → xs ≡ front ++ (x ∷ rest) → clock e.call ≡ Some x.time))
   nothing_struck_out e =
       let A = (charges_noted cpu memory a₀ a out out' o es h f e).adds in
       ((A.carved, A.budgets), (A.charged, A.charges, λ front rest x q. timed_each (clock e.call) A.charged front rest x A.timed q))
 
   -- what the ledger notes, the book takes: of a budget with the same start before and after a call, and of one that the call renewed
-  pub taken_and_noted : (e : Made) (i : ℕ) (x y : Budget) → at (booked es cpu memory).objects.budgets i ≡ some x → at (booked (es ++ (e ∷ [])) cpu memory).objects.budgets i ≡ some y
+  pub taken_and_noted : (e : Made) (i : ℕ) (x y : Budget) → at (booked es cpu memory).objects.budgets i ≡ Some x → at (booked (es ++ (e ∷ [])) cpu memory).objects.budgets i ≡ Some y
       → (y.start ≡ x.start → y.taken_cpu + charged_to (noted es cpu memory).charges i + x.carved_cpu
       ≡ x.taken_cpu + charged_to (noted (es ++ (e ∷ [])) cpu memory).charges i + y.carved_cpu)
       × ((y.start ≡ x.start → ⊥) → (x.start < y.start) × (y.taken_cpu + charged_to (noted es cpu memory).charges i + x.carved_cpu

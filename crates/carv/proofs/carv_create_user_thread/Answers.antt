@@ -1,14 +1,6 @@
 -- `carv::carv_create_user_thread` meets its contract. Assumes nothing.
-use Rattle.carv.proofs.Laws.Reporting.{c_created_size, c_created}
+use Rattle.carv.proofs.Laws.Reporting.{c_created}
 use Rattle.carv.proofs.carv_create_user_thread.Goals as goal
-
-pub returns-then-out-ne-WORDS : goal.returns-then-out-ne-WORDS
-returns-then-out-ne-WORDS c =
-    c_created_size _ _ _ _ c.if-out-ne-WORDS.true
-
-pub report-requires : goal.report-requires
-report-requires c =
-    c.if-out-ne-WORDS.false
 
 pub returns : goal.returns
 returns c =

@@ -1,13 +1,14 @@
 -- The laws of `Search`: how many of the rising keys are below a number, by halving, from a window of places. Keys that rise are at least as far apart as their places.
 -- Assumes nothing.
-use Rattle.std.specs.Prelude.{ℕ, zero, suc, ◌+◌, ◌*◌, ◌-◌, ◌≤◌, ◌<◌, ◌≡◌, ◌⊎◌, List, [], ◌∷◌, length, get_or, ltb}
-use Rattle.std.proofs.Common.{not-suc-le-zero, eq-or-lt_of_le, suc-mul, mul-le-mul_left, mul-le-mul_right, add-zero, add-mul, add-one, arith, sym, ap, ◌∙◌, ltb-true, ltb-false, lt-ltb, le-ltb}
+use Rattle.std.specs.Prelude.{ℕ, zero, suc, ◌+◌, ◌*◌, ◌-◌, min, ◌≤◌, ◌<◌, ◌≡◌, List, [], ◌∷◌, length, get_or, eqb, ltb, None}
+use Rattle.std.proofs.Common.{not-suc-le-zero, eq-or-lt_of_le, mul-le-mul_left, add-zero, arith, sym, ap, ◌∙◌, eqb-true, ltb-true, ltb-false, lt-ltb, le-ltb}
 use Rattle.std.proofs.Math.Logic.{⊎_elim}
+use Rattle.std.specs.Bool.{then_some}
+use Rattle.std.proofs.lemmas.Bool.{eqb-false}
 use Rattle.carv_area.specs.Laws.Table.{test}
 use Rattle.carv_area.specs.Laws.Lists.{lt_or_ge}
 use Rattle.carv_area.specs.Keys.{Rising, find_in}
-use Rattle.carv_area.specs.Laws.Keys.{find_none}
-use Rattle.carv_area.specs.declared.Found.TheVariants.{Nothing}
+use Rattle.carv_area.specs.Laws.Keys.{find_none, find_there}
 use Rattle.carv_area.specs.Search.{rank_in, Bracket}
 
 -- the first i keys are below x, and the next is not
@@ -48,8 +49,7 @@ pub rank_none : (ks : List ℕ) (x : ℕ) → length ks ≤ 0 → 0 ≡ rank_in 
 rank_none ks x h = rank_is ks x 0 (record { within = omega arith; below = λ j a. absurd (not-suc-le-zero a); next = λ a. absurd (omega arith) })
 
 -- the key behind those below x is not x: then no key is
-pub absent : (ks : List ℕ) (x i : ℕ) → Rising ks → i ≡ rank_in ks x → (i < length ks → get_or ks i 0 ≡ x → ⊥) → find_in ks x ≡ Nothing
-unfolding Rising
+pub absent : (ks : List ℕ) (x i : ℕ) → Rising ks → i ≡ rank_in ks x → (i < length ks → get_or ks i 0 ≡ x → ⊥) → find_in ks x ≡ None
 absent ks x i r e ne =
     let k : Ranked ks x i = rw e (ranked ks x) in
     find_none ks x
@@ -58,10 +58,16 @@ absent ks x i r e ne =
     (λ (a : i ≤ j). ⊎_elim (λ (b : i ≡ j). ne (omega arith) (ap (λ (y : ℕ). get_or ks y 0) b ∙ q)) (λ (b : i < j). omega (arith, k.next (omega arith), r i j b l)) (eq-or-lt_of_le a))
     (lt_or_ge j i))
 
+-- the key behind those below x says whether x is a key
+pub found : (ks : List ℕ) (x i : ℕ) → Rising ks → i ≡ rank_in ks x → i < length ks → then_some (eqb (get_or ks i 0) x) i ≡ find_in ks x
+found ks x i r e h =
+    test (eqb (get_or ks i 0) x)
+    (λ q. rw q (sym (find_there ks x i r h (eqb-true (get_or ks i 0) x q))))
+    (λ q. rw q (sym (absent ks x i r e (λ a b. eqb-false (get_or ks i 0) x q b))))
+
 module _ {ks : List ℕ} {x lo len : ℕ} (r : Rising ks) (b : Bracket ks x lo len) (half : ℕ) (one : 1 ≤ half) (fit : half + half ≤ len) where
   -- no key before place m is above key m
   up_to : (m : ℕ) → m < length ks → (k : ℕ) → k ≤ m → get_or ks k 0 ≤ get_or ks m 0
-  unfolding Rising
   up_to m h k l = ⊎_elim (λ e. rw e (omega arith)) (λ a. omega (arith, r k m a h)) (eq-or-lt_of_le l)
 
   -- the key before the middle is below x
@@ -75,7 +81,6 @@ module _ {ks : List ℕ} {x lo len : ℕ} (r : Rising ks) (b : Bracket ks x lo l
 
   -- and not below it
   pub go_left : x ≤ get_or ks ((lo + half) - 1) 0 → Bracket ks x lo (len - half)
-  unfolding Rising
   go_left h = record {
     some = omega arith;
     fits = omega (arith, b.fits);
@@ -104,7 +109,6 @@ module _ {ks : List ℕ} {x lo len : ℕ} (b : Bracket ks x lo len) (m : len ≤
 
 -- two keys, d places apart
 rising_gap : (ks : List ℕ) → Rising ks → (i d : ℕ) → i + d < length ks → get_or ks i 0 + d ≤ get_or ks (i + d) 0
-unfolding Rising
 rising_gap ks r i zero h = rw (add-zero, add-zero) (omega arith)
 rising_gap ks r i (suc d) h =
     let a = rising_gap ks r i d (omega arith) in
@@ -134,39 +138,23 @@ module _ (ks : List ℕ) (x n f z : ℕ) (r : Rising ks) (en : length ks ≡ n) 
       })
 
   -- x lies between them: its place is neither more than z - x before the last, nor more than x - f behind the first
-  module _ (a : f ≤ x) (b : x ≤ z) (lo hi : ℕ) (from : lo ≡ (n - 1) - (z - x)) (most : hi ≤ n) (tight : n ≤ hi ⊎ (x - f) + 1 ≤ hi) where
+  module _ (a : f < x) (b : x ≤ z) (lo hi : ℕ) (from : lo ≡ (n - 1) - (z - x)) (to : hi ≡ min (x - f) (n - 1)) where
     -- the window has a place
-    pub window_some : lo + 1 ≤ hi
-    window_some =
-        let g = gap ks r 0 (n - 1) (omega arith) (omega arith) in
-        ⊎_elim (λ (t : n ≤ hi). omega arith) (λ (t : (x - f) + 1 ≤ hi). omega arith) tight
+    pub window_some : lo ≤ hi
+    window_some = omega (arith, gap ks r 0 (n - 1) (omega arith) (omega arith))
 
     -- and the other places are not x's
-    pub window : Bracket ks x lo (hi - lo)
+    pub window : Bracket ks x lo ((hi + 1) - lo)
     window =
         let s = window_some in
         record {
           some = omega arith;
           fits = omega arith;
           below = λ k h. omega (arith, gap ks r k (n - 1) (omega arith) (omega arith));
-          above = λ k h l.
-              let g = gap ks r 0 k (omega arith) l in
-              ⊎_elim (λ (t : n ≤ hi). absurd (omega arith)) (λ (t : (x - f) + 1 ≤ hi). omega arith) tight;
+          above = λ k h l. omega (arith, gap ks r 0 k (omega arith) l);
         }
 
 -- ---- rows
-
--- row m of n rows, each w words wide, is within them
-pub row_within : (m n w : ℕ) → m < n → m * w + w ≤ n * w
-row_within m n w h = let g : suc m * w ≤ n * w = mul-le-mul_right w h in omega (arith, suc-mul m w)
-
--- the rows before row i, and those from it on. m is n, the count that the code reads
-pub rows_cut : (i m n w : ℕ) → m ≡ n → i ≤ n → i * w + (m - i) * w ≡ n * w
-rows_cut i m n w e h = let s : i + (m - i) ≡ n = omega arith in sym (add-mul i (m - i) w) ∙ ap (λ (k : ℕ). k * w) s
-
--- the rows before row i, row i, and those behind it
-pub row_cut : (i m n w : ℕ) → m ≡ n → i < n → (i * w + w) + (m - (i + 1)) * w ≡ n * w
-row_cut i m n w e h = ap (λ (k : ℕ). k + (m - (i + 1)) * w) (sym (suc-mul i w) ∙ ap (λ (k : ℕ). k * w) (sym (add-one i))) ∙ rows_cut (i + 1) m n w e (omega arith)
 
 -- rows that have words are not more than their words
 pub rows_few : (n w : ℕ) → 1 ≤ w → n ≤ n * w

@@ -1,7 +1,6 @@
 -- Sums over the rows of a table. Assumes nothing.
-use Rattle.std.specs.Prelude.{◌≡◌, refl, Bool, true, false, cond, List, [], ◌∷◌, ◌++◌, ℕ, zero, suc, ◌+◌, ◌≤◌, eqb, take}
+use Rattle.std.specs.Prelude.{◌≡◌, refl, Bool, true, false, cond, List, [], ◌∷◌, ◌++◌, ℕ, zero, suc, ◌+◌, ◌≤◌, eqb, take, Option, Some, None}
 use Rattle.std.proofs.Common.{sym, ◌∙◌, ap, arith, eqb-true, eq-eqb}
-use Rattle.std.proofs.Math.Option.{Option, none, some}
 use Rattle.std.proofs.lemmas.Bool.{eqb-false}
 use Rattle.carv_area.specs.Table.{Row, at, erase, total, Rising}
 use Rattle.carv_area.specs.Laws.Table
@@ -39,7 +38,7 @@ module _ {A : Type 0} where
       zeros (x ∷ m) = omega (arith, zeros m)
 
   -- the sum of one row
-  pub total_one : (u : ℕ → A → ℕ) (m : List (Row A)) (l n p : ℕ) (y : A) → Rising l n m → at m p ≡ some y → total (λ j d. cond (eqb p j) (u j d) 0) m ≡ u p y
+  pub total_one : (u : ℕ → A → ℕ) (m : List (Row A)) (l n p : ℕ) (y : A) → Rising l n m → at m p ≡ Some y → total (λ j d. cond (eqb p j) (u j d) 0) m ≡ u p y
   total_one u m l n p y up h =
       let w : ℕ → A → ℕ = λ j d. cond (eqb p j) (u j d) 0 in
       let rest : total w (erase p m) ≡ 0 = Table.total_zero w (erase p m) (Table.all_at (λ j d. w j d ≡ 0) (erase p m) l n (Table.rising_erase m l n p up)
@@ -60,8 +59,8 @@ module _ {A : Type 0} where
 
   -- what stands under an id weighs this much; nothing weighs nothing
   abbrev pub weight_of : (w : ℕ → A → ℕ) (i : ℕ) → Option A → ℕ
-  weight_of w i none = 0
-  weight_of w i (some a) = w i a
+  weight_of w i None = 0
+  weight_of w i (Some a) = w i a
 
 -- two tables in which what stands under each id weighs the same have the same sum
 pub total_same_at : {A B : Type 0} (w : ℕ → A → ℕ) (v : ℕ → B → ℕ) (m : List (Row A)) (n : List (Row B)) (l p l' p' : ℕ) → Rising l p m → Rising l' p' n
@@ -70,7 +69,7 @@ total_same_at w v [] n l p l' p' up up' each =
     sym (Table.total_zero v n (Table.all_at (λ i b. v i b ≡ 0) n l' p' up' λ i b h. sym (ap (weight_of v i) h) ∙ sym (each i)))
 total_same_at {A} {B} w v (x ∷ m) n l p l' p' up up' each = go (λ k. total_same_at w v m k (suc x.id) p l' p' up.1) (at n x.id) refl
   where
-    rest_none : at m x.id ≡ none
+    rest_none : at m x.id ≡ None
     rest_none = Table.at_below m (suc x.id) p x.id up.1 (omega arith)
 
     here : weight_of w x.id (at (x ∷ m) x.id) ≡ w x.id x.it
@@ -78,7 +77,7 @@ total_same_at {A} {B} w v (x ∷ m) n l p l' p' up up' each = go (λ k. total_sa
 
     go : ((k : List (Row B)) → Rising l' p' k → ((i : ℕ) → weight_of w i (at m i) ≡ weight_of v i (at k i)) → total w m ≡ total v k)
         → (o : Option B) → at n x.id ≡ o → total w (x ∷ m) ≡ total v n
-    go on none q =
+    go on None q =
         let zero_here : w x.id x.it ≡ 0 = sym here ∙ each x.id ∙ ap (weight_of v x.id) q in
         omega (
           arith,
@@ -86,7 +85,7 @@ total_same_at {A} {B} w v (x ∷ m) n l p l' p' up up' each = go (λ k. total_sa
               (λ a. let e = eqb-true x.id i a in rw (← e) (ap (weight_of w x.id) rest_none ∙ sym (ap (weight_of v x.id) q)))
               (λ a. rw a at (each i)),
         )
-    go on (some b) q =
+    go on (Some b) q =
         let same_here : w x.id x.it ≡ v x.id b = sym here ∙ each x.id ∙ ap (weight_of v x.id) q in
         omega (
           arith,

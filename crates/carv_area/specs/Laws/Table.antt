@@ -1,9 +1,8 @@
 -- The laws of `Table`: what `at`, the order of the ids and the total are after `alter`, `erase`, `put` and a row behind the others; alterations after one another; and a split on a
 -- test. Assumes nothing.
-use Rattle.std.specs.Prelude.{◌≡◌, Bool, true, false, cond, eqb, ltb, length}
+use Rattle.std.specs.Prelude.{◌≡◌, Bool, true, false, cond, eqb, ltb, length, Option, Some, None}
 use Rattle.std.proofs.Math.Path.{refl}
 use Rattle.std.proofs.Common.{sym, ◌∙◌, ap, suc-add}
-use Rattle.std.proofs.Math.Option.{Option, none, some}
 use mathlib.Core.List.{List, [], ◌∷◌, ◌++◌}
 use Prim.Native.Nat.{ℕ, zero, suc, ◌+◌, ◌≤◌, ◌<◌}
 use native.Mathlib.Omega.{arith}
@@ -17,11 +16,11 @@ test true t f = t refl
 test false t f = f refl
 
 module _ {A : Type 0} where
-  pub at_alter : (m : List (Row A)) (i : ℕ) (f : A → A) (a : A) → at m i ≡ some a → at (alter i f m) i ≡ some (f a)
+  pub at_alter : (m : List (Row A)) (i : ℕ) (f : A → A) (a : A) → at m i ≡ Some a → at (alter i f m) i ≡ Some (f a)
   at_alter [] i f a h = cc
   at_alter (r ∷ m) i f a h =
       test (eqb r.id i)
-      (λ e. let h' : some r.it ≡ some a = rw e at h in rw (e, eq-eqb i i refl) cc)
+      (λ e. let h' : Some r.it ≡ Some a = rw e at h in rw (e, eq-eqb i i refl) cc)
       (λ e. rw (e, e) (at_alter m i f a (rw e at h)))
 
   pub at_alter_other : (m : List (Row A)) (i j : ℕ) (f : A → A) → (i ≡ j → ⊥) → at (alter i f m) j ≡ at m j
@@ -29,20 +28,20 @@ module _ {A : Type 0} where
   at_alter_other (r ∷ m) i j f h =
       test (eqb r.id i)
       (λ e. rw (e, ne_eqb i j h, ne_eqb r.id j (λ q. h (sym (eqb-true r.id i e) ∙ q))))
-      (λ e. rw e (ap (λ (o : Option A). cond (eqb r.id j) (some r.it) o) (at_alter_other m i j f h)))
+      (λ e. rw e (ap (λ (o : Option A). cond (eqb r.id j) (Some r.it) o) (at_alter_other m i j f h)))
 
   -- what an alteration leaves is read as before, under any id
-  pub at_alter_same {ℓ} : {B : Type ℓ} (h : Option A → B) (i : ℕ) (f : A → A) → ((a : A) → h (some (f a)) ≡ h (some a)) → (m : List (Row A)) (j : ℕ) → h (at (alter i f m) j) ≡ h (at m j)
+  pub at_alter_same {ℓ} : {B : Type ℓ} (h : Option A → B) (i : ℕ) (f : A → A) → ((a : A) → h (Some (f a)) ≡ h (Some a)) → (m : List (Row A)) (j : ℕ) → h (at (alter i f m) j) ≡ h (at m j)
   at_alter_same h i f k [] j = refl
   at_alter_same h i f k (r ∷ m) j = test (eqb r.id i)
       (λ e. rw (e, eqb-true r.id i e) (test (eqb i j) (λ d. rw d (k r.it)) (λ d. rw d)))
       (λ e. rw e (test (eqb r.id j) (λ d. rw d) (λ d. rw d (at_alter_same h i f k m j))))
 
   -- what stands under i decides what an alteration does
-  pub alter_known : (m : List (Row A)) (i : ℕ) (f g : A → A) (a : A) → at m i ≡ some a → f a ≡ g a → alter i f m ≡ alter i g m
+  pub alter_known : (m : List (Row A)) (i : ℕ) (f g : A → A) (a : A) → at m i ≡ Some a → f a ≡ g a → alter i f m ≡ alter i g m
   alter_known [] i f g a h q = refl
   alter_known (r ∷ m) i f g a h q = test (eqb r.id i)
-      (λ e. let h' : some r.it ≡ some a = rw e at h in let x : r.it ≡ a = cc in rw (e, x, q))
+      (λ e. let h' : Some r.it ≡ Some a = rw e at h in let x : r.it ≡ a = cc in rw (e, x, q))
       (λ e. rw e (ap (◌∷◌ r) (alter_known m i f g a (rw e at h) q)))
 
   pub alter_alter : (m : List (Row A)) (i : ℕ) (f g : A → A) → alter i g (alter i f m) ≡ alter i (λ a. g (f a)) m
@@ -77,25 +76,25 @@ module _ {A : Type 0} where
       (λ d. rw (e, d, ne_eqb p i (λ q. h (sym q))))
       (λ d. rw (e, d, e) (ap (◌∷◌ r) (erase_alter m i p f h))))
 
-  pub at_snoc : (m : List (Row A)) (i j : ℕ) (a : A) → at m i ≡ none → at (m ++ (record { id = i; it = a } ∷ [])) i ≡ some a
+  pub at_snoc : (m : List (Row A)) (i j : ℕ) (a : A) → at m i ≡ None → at (m ++ (record { id = i; it = a } ∷ [])) i ≡ Some a
   at_snoc [] i j a h = rw (eq-eqb i i refl)
   at_snoc (r ∷ m) i j a h =
       test (eqb r.id i)
-      (λ e. let h' : some r.it ≡ none = rw e at h in cc)
+      (λ e. let h' : Some r.it ≡ None = rw e at h in cc)
       (λ e. rw e (at_snoc m i j a (rw e at h)))
 
   pub at_snoc_other : (m : List (Row A)) (i j : ℕ) (a : A) → (i ≡ j → ⊥) → at (m ++ (record { id = i; it = a } ∷ [])) j ≡ at m j
   at_snoc_other [] i j a h = rw (ne_eqb i j h)
-  at_snoc_other (r ∷ m) i j a h = ap (λ (o : Option A). cond (eqb r.id j) (some r.it) o) (at_snoc_other m i j a h)
+  at_snoc_other (r ∷ m) i j a h = ap (λ (o : Option A). cond (eqb r.id j) (Some r.it) o) (at_snoc_other m i j a h)
 
   pub at_erase_other : (m : List (Row A)) (i j : ℕ) → (i ≡ j → ⊥) → at (erase i m) j ≡ at m j
   at_erase_other [] i j h = refl
   at_erase_other (r ∷ m) i j h =
       test (eqb r.id i)
       (λ e. rw (e, ne_eqb r.id j (λ q. h (sym (eqb-true r.id i e) ∙ q))))
-      (λ e. rw e (ap (λ (o : Option A). cond (eqb r.id j) (some r.it) o) (at_erase_other m i j h)))
+      (λ e. rw e (ap (λ (o : Option A). cond (eqb r.id j) (Some r.it) o) (at_erase_other m i j h)))
 
-  pub at_below : (m : List (Row A)) (l n i : ℕ) → Rising l n m → i < l → at m i ≡ none
+  pub at_below : (m : List (Row A)) (l n i : ℕ) → Rising l n m → i < l → at m i ≡ None
   at_below [] l n i u h = refl
   at_below (r ∷ m) l n i u h =
       rw (ne_eqb r.id i (λ q. let z = u.0 in omega arith))
@@ -105,13 +104,13 @@ module _ {A : Type 0} where
   rising_le [] l n u = u
   rising_le (r ∷ m) l n u = let z = rising_le m (suc r.id) n u.1 in omega arith
 
-  pub at_above : (m : List (Row A)) (l n i : ℕ) → Rising l n m → n ≤ i → at m i ≡ none
+  pub at_above : (m : List (Row A)) (l n i : ℕ) → Rising l n m → n ≤ i → at m i ≡ None
   at_above [] l n i u h = refl
   at_above (r ∷ m) l n i u h =
       rw (ne_eqb r.id i (λ q. let z = rising_le m (suc r.id) n u.1 in omega arith))
       (at_above m (suc r.id) n i u.1 h)
 
-  pub at_erase : (m : List (Row A)) (l n i : ℕ) → Rising l n m → at (erase i m) i ≡ none
+  pub at_erase : (m : List (Row A)) (l n i : ℕ) → Rising l n m → at (erase i m) i ≡ None
   at_erase [] l n i u = refl
   at_erase (r ∷ m) l n i u =
       test (eqb r.id i)
@@ -140,12 +139,12 @@ module _ {A : Type 0} where
   rising_snoc [] l n a u = (u, omega arith)
   rising_snoc (r ∷ m) l n a u = (u.0, rising_snoc m (suc r.id) n a u.1)
 
-  pub total_alter : (w : ℕ → A → ℕ) (m : List (Row A)) (i : ℕ) (f : A → A) (a : A) → at m i ≡ some a
+  pub total_alter : (w : ℕ → A → ℕ) (m : List (Row A)) (i : ℕ) (f : A → A) (a : A) → at m i ≡ Some a
       → total w (alter i f m) + w i a ≡ total w m + w i (f a)
   total_alter w [] i f a h = let z : ◌≡◌ {A = ℕ} 0 1 = cc in omega arith
   total_alter w (r ∷ m) i f a h =
       test (eqb r.id i)
-      (λ e. let q = eqb-true r.id i e in let h' : some r.it ≡ some a = rw e at h in
+      (λ e. let q = eqb-true r.id i e in let h' : Some r.it ≡ Some a = rw e at h in
       let x : r.it ≡ a = cc in rw (e, q, x) (omega arith))
       (λ e. rw e (let ih = total_alter w m i f a (rw e at h) in omega arith))
 
@@ -157,12 +156,12 @@ module _ {A : Type 0} where
       (λ e. let q = eqb-true r.id i e in rw (e, q) (omega (arith, h r.it)))
       (λ e. rw e (omega (arith, total_same w m i f h)))
 
-  pub total_erase : (w : ℕ → A → ℕ) (m : List (Row A)) (i : ℕ) (a : A) → at m i ≡ some a
+  pub total_erase : (w : ℕ → A → ℕ) (m : List (Row A)) (i : ℕ) (a : A) → at m i ≡ Some a
       → total w (erase i m) + w i a ≡ total w m
   total_erase w [] i a h = let z : ◌≡◌ {A = ℕ} 0 1 = cc in omega arith
   total_erase w (r ∷ m) i a h =
       test (eqb r.id i)
-      (λ e. let q = eqb-true r.id i e in let h' : some r.it ≡ some a = rw e at h in
+      (λ e. let q = eqb-true r.id i e in let h' : Some r.it ≡ Some a = rw e at h in
       let x : r.it ≡ a = cc in rw (e, q, x) (omega arith))
       (λ e. rw e (let ih = total_erase w m i a (rw e at h) in omega arith))
 
@@ -184,7 +183,7 @@ module _ {A : Type 0} where
   All P (r ∷ m) = P r.id r.it × All P m
 
   pub all_at : (P : ℕ → A → Type 0) (m : List (Row A)) (l n : ℕ) → Rising l n m
-      → ((i : ℕ) (a : A) → at m i ≡ some a → P i a) → All P m
+      → ((i : ℕ) (a : A) → at m i ≡ Some a → P i a) → All P m
   all_at P [] l n u h = tt
   all_at P (r ∷ m) l n u h = (
     h r.id r.it (rw (eq-eqb r.id r.id refl)),
@@ -195,10 +194,10 @@ module _ {A : Type 0} where
         (λ e. h i a (rw e g))),
   )
 
-  pub at_all : (P : ℕ → A → Type 0) (m : List (Row A)) → All P m → (i : ℕ) (a : A) → at m i ≡ some a → P i a
+  pub at_all : (P : ℕ → A → Type 0) (m : List (Row A)) → All P m → (i : ℕ) (a : A) → at m i ≡ Some a → P i a
   at_all P [] h i a g = let b : ◌≡◌ {A = ℕ} 0 1 = cc in absurd (omega arith)
   at_all P (r ∷ m) h i a g = test (eqb r.id i)
-      (λ e. let q = eqb-true r.id i e in let g' : some r.it ≡ some a = rw e at g in
+      (λ e. let q = eqb-true r.id i e in let g' : Some r.it ≡ Some a = rw e at g in
       let x : r.it ≡ a = cc in rw (← q, ← x) h.0)
       (λ e. at_all P m h.1 i a (rw e at g))
 
@@ -207,10 +206,10 @@ module _ {A : Type 0} where
   total_zero w (r ∷ m) h = omega (arith, h.0, total_zero w m h.1)
 
   -- no weight is above the total
-  pub total_at : (w : ℕ → A → ℕ) (m : List (Row A)) (i : ℕ) (a : A) → at m i ≡ some a → w i a ≤ total w m
+  pub total_at : (w : ℕ → A → ℕ) (m : List (Row A)) (i : ℕ) (a : A) → at m i ≡ Some a → w i a ≤ total w m
   total_at w m i a h = omega (arith, total_erase w m i a h)
 
-  pub at_put : (m : List (Row A)) (i : ℕ) (a : A) → at (put i a m) i ≡ some a
+  pub at_put : (m : List (Row A)) (i : ℕ) (a : A) → at (put i a m) i ≡ Some a
   at_put [] i a = rw (eq-eqb i i refl)
   at_put (r ∷ m) i a = test (eqb r.id i)
       (λ e. rw (e, eq-eqb i i refl))
@@ -221,7 +220,7 @@ module _ {A : Type 0} where
   at_put_other (r ∷ m) i j a h = test (eqb r.id i)
       (λ e. rw (e, ne_eqb i j h, ne_eqb r.id j (λ q. h (sym (eqb-true r.id i e) ∙ q))))
       (λ e. rw e (test (ltb i r.id) (λ f. rw (f, ne_eqb i j h))
-      (λ f. rw f (ap (λ (o : Option A). cond (eqb r.id j) (some r.it) o) (at_put_other m i j a h)))))
+      (λ f. rw f (ap (λ (o : Option A). cond (eqb r.id j) (Some r.it) o) (at_put_other m i j a h)))))
 
   pub rising_put : (m : List (Row A)) (l n i : ℕ) (a : A) → l ≤ i → i < n → Rising l n m → Rising l n (put i a m)
   rising_put [] l n i a h k u = (h, k)
@@ -245,8 +244,8 @@ module _ {A : Type 0} where
       (λ e. rw e (test (ltb i r.id) (λ f. rw f (omega arith)) (λ f. rw f (omega (arith, length_put m i a)))))
 
   abbrev pub passes : (A → Bool) → Option A → Bool
-  passes p none = false
-  passes p (some a) = p a
+  passes p None = false
+  passes p (Some a) = p a
 
 -- the numbers of `n` from `l` on that pass a test
 pub scan : (ℕ → Bool) → ℕ → ℕ → List ℕ

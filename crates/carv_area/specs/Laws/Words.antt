@@ -1,24 +1,23 @@
 -- The laws of `Words`: the words after a store of a word, and the bytes behind the last whole word; these and the words are every byte (`bytes_fixed`). Assumes nothing.
-use Rattle.std.specs.Prelude.{ℕ, zero, suc, ◌+◌, ◌*◌, ◌-◌, ◌/◌, ◌%◌, ◌^◌, ◌≤◌, ◌<◌, ◌≡◌, refl, ◌≢◌, List, [], ◌∷◌, ◌++◌, set, take, drop}
-use Rattle.std.proofs.Common.{add-zero, add-suc, suc-add, pow-suc, eq-or-lt_of_le, ◌∙◌, subst, ⊎_elim, length-set, length-append, length-drop, take-append-drop, get_or-set_same, get_or-set_other, ext_get_or, length-take-le, take_at, drop_at, get_or-drop}
-use Rattle.std.proofs.Math.Numerals.{towards_numerals}
+use Rattle.std.specs.Prelude.{ℕ, zero, suc, ◌+◌, ◌*◌, ◌-◌, ◌/◌, ◌%◌, ◌^◌, ◌≤◌, ◌<◌, ◌≡◌, refl, List, [], ◌∷◌, ◌++◌, set, take, drop, replicate}
+use Rattle.std.proofs.Common.{zero-add, le_of_suc-le-suc, not-suc-le-zero, get_or-take, drop-drop, add-zero, add-suc, suc-add, pow-suc, eq-or-lt_of_le, ◌∙◌, subst, ⊎_elim, length-set, length-append, length-drop, take-append-drop, get_or-set_other, ext_get_or, length-take-le, take_at, drop_at, get_or-drop}
 use native.Mathlib.Omega.{arith}
 use Rattle.std.proofs.Math.Path.{sym, ap}
 use Rattle.std.proofs.Math.ListN.{length, get_or, get_or-append, get_or-eq_default}
-use Rattle.std.proofs.lemmas.List.Edits.{sets}
-use Rattle.std.proofs.Math.Seq.{length-sets, get_or-append-add}
-use Rattle.carv_area.specs.Laws.Lists.{lt_or_ge, apart, same_or_not, length_tab, get_or_tab, get_d_sets_before, get_or_sets_after, get_or_sets_in}
-use Rattle.carv_area.specs.Le.{le8, set2, set8}
+use Rattle.std.proofs.Math.Seq.{get_or-append-add}
+use Rattle.carv_area.specs.Laws.Lists.{lt_or_ge, zero_at, length_tab, get_or_tab}
+use Rattle.std.specs.Simd.{first_chunks}
+use Rattle.std.specs.Int.{w64, to_le_bytes, from_le_bytes}
+use Rattle.std.proofs.lemmas.Nat.{from_le_bytes-to_le_bytes_8}
+use Rattle.std.proofs.lemmas.Slice.{put_mid-paste}
+use Rattle.std.proofs.lemmas.List.{set_split, length-replicate, get_or-replicate}
+use Rattle.std.proofs.lemmas.List.Edits.{sets, length-paste, drop-paste, paste_all}
+use Rattle.std.proofs.Math.Seq.{paste, sets-eq}
+use Rattle.std.proofs.Math.Numerals.{towards_numerals}
+use Rattle.carv_area.specs.Lists.{tab}
 use Rattle.carv_area.specs.Words.{value, word, words, rest, Writes}
-
--- the n low bytes of v
-unfoldable pub bytes_of : ℕ → ℕ → List ℕ
-bytes_of zero v = []
-bytes_of (suc n) v = v % 256 ∷ bytes_of n (v / 256)
-
--- l, with v at word number k
-unfoldable pub set_word : List ℕ → ℕ → ℕ → List ℕ
-set_word l k v = sets l (k * 8) (bytes_of 8 v)
+use Rattle.carv_area.specs.Parts.{put_part}
+use Rattle.carv_area.specs.Moves.{zeros, wipe}
 
 -- `value` looks at its n bytes only
 value_shift : (n : ℕ) (l m : List ℕ) (o p : ℕ) → ((i : ℕ) → i < n → get_or l (o + i) 0 ≡ get_or m (p + i) 0) → value n l o ≡ value n m p
@@ -33,23 +32,6 @@ value_shift (suc n) l m o p h =
 value_ext : (n : ℕ) (l m : List ℕ) (o : ℕ) → ((i : ℕ) → o ≤ i → i < o + n → get_or l i 0 ≡ get_or m i 0) → value n l o ≡ value n m o
 value_ext n l m o h = value_shift n l m o o (λ i a. h (o + i) (omega arith) (omega arith))
 
--- as many bytes as asked
-length_bytes_of : (n v : ℕ) → length (bytes_of n v) ≡ n
-unfolding bytes_of
-length_bytes_of zero v = refl
-length_bytes_of (suc n) v = ap suc (length_bytes_of n (v / 256))
-
--- the value of the bytes of v
-value_bytes : (n v : ℕ) (l : List ℕ) (o : ℕ) → v < 256 ^ n → ((i : ℕ) → i < n → get_or l (o + i) 0 ≡ get_or (bytes_of n v) i 0) → value n l o ≡ v
-unfolding value bytes_of
-value_bytes zero v l o f h = omega arith
-value_bytes (suc n) v l o f h =
-    let g = rw pow-suc at f in
-    let q : v / 256 < 256 ^ n = omega arith in
-    let rest = value_bytes n (v / 256) l (suc o) q (λ i k. rw (suc-add, ← add-suc) (h (suc i) (omega arith))) in
-    let here : get_or l o 0 ≡ v % 256 = rw add-zero at (h zero (omega arith)) in
-    omega arith
-
 -- bytes below 256 are determined by their value
 value_inj : (n : ℕ) (l m : List ℕ) (o : ℕ) → ((i : ℕ) → get_or l i 0 < 256) → ((i : ℕ) → get_or m i 0 < 256) → value n l o ≡ value n m o
     → (i : ℕ) → o ≤ i → i < o + n → get_or l i 0 ≡ get_or m i 0
@@ -61,33 +43,11 @@ value_inj (suc n) l m o bl bm e i a b =
     (λ (p : o < i). value_inj n l m (suc o) bl bm (omega (arith, bl o, bm o)) i p (omega arith))
     (eq-or-lt_of_le a)
 
--- a store keeps the number of bytes
-pub length_set_word : (l : List ℕ) (k v : ℕ) → length (set_word l k v) ≡ length l
-unfolding set_word
-length_set_word l k v = length-sets l (k * 8) (bytes_of 8 v)
-
--- the word that is stored
-pub word_same : (l : List ℕ) (k v : ℕ) → k * 8 + 8 ≤ length l → v < 2 ^ 64 → word (set_word l k v) k ≡ v
-unfolding word set_word
-word_same l k v h f =
-    value_bytes 8 v (sets l (k * 8) (bytes_of 8 v)) (k * 8) f
-    (λ i a. get_or_sets_in (bytes_of 8 v) l (k * 8) i 0 (rw length_bytes_of h) (rw length_bytes_of a))
-
 -- bytes below 256 are determined by their word
 pub word_inj : (l m : List ℕ) (k : ℕ) → ((i : ℕ) → get_or l i 0 < 256) → ((i : ℕ) → get_or m i 0 < 256) → word l k ≡ word m k
     → (i : ℕ) → k * 8 ≤ i → i < k * 8 + 8 → get_or l i 0 ≡ get_or m i 0
 unfolding word
 word_inj l m k = value_inj 8 l m (k * 8)
-
--- the other words stay
-pub word_other : (l : List ℕ) (k j v : ℕ) → j ≢ k → word (set_word l k v) j ≡ word l j
-unfolding word set_word
-word_other l k j v ne =
-    value_ext 8 (sets l (k * 8) (bytes_of 8 v)) l (j * 8)
-    (λ i a b. ⊎_elim
-    (λ (p : j < k). get_d_sets_before (bytes_of 8 v) l (k * 8) i 0 (omega arith))
-    (λ (p : k < j). get_or_sets_after (bytes_of 8 v) l (k * 8) i 0 (rw length_bytes_of (omega arith)))
-    (apart j k ne))
 
 -- ---- the list of words
 
@@ -101,18 +61,6 @@ pub get_d_words : (l : List ℕ) (k : ℕ) → k < length (words l) → get_or (
 unfolding words
 get_d_words l k h = get_or_tab (length l / 8) (word l) k 0 (omega (arith, length_words l))
 
--- a store of a word is a store in the list of words
-pub words_set_word : (l : List ℕ) (k v : ℕ) → k < length (words l) → v < 2 ^ 64 → words (set_word l k v) ≡ set (words l) k v
-words_set_word l k v h f =
-    let n = length_words l in
-    let m : length (words (set_word l k v)) ≡ length (words l) = length_words (set_word l k v) ∙ ap (λ (x : ℕ). x / 8) (length_set_word l k v) ∙ sym n in
-    ext_get_or 0 (words (set_word l k v)) (set (words l) k v) (m ∙ sym (length-set (words l) k v))
-    (λ i b. get_d_words (set_word l k v) i b ∙
-    ⊎_elim
-    (λ (e : i ≡ k). rw e (word_same l k v (omega arith) f ∙ sym (get_or-set_same (words l) k v 0 h)))
-    (λ (ne : i ≢ k). word_other l k i v ne ∙ sym (get_d_words l i (omega arith)) ∙ sym (get_or-set_other (words l) k i v 0 ne))
-    (same_or_not i k))
-
 -- ---- the bytes behind the last whole word
 
 -- their number
@@ -124,17 +72,6 @@ length_rest l = length-drop (length l / 8 * 8) l ∙ omega arith
 get_or_rest : (l : List ℕ) (i : ℕ) → get_or (rest l) i 0 ≡ get_or l (length l / 8 * 8 + i) 0
 unfolding rest
 get_or_rest l i = get_or-drop (length l / 8 * 8) l i 0
-
--- a store of a word leaves them
-pub rest_set_word : (l : List ℕ) (k v : ℕ) → k * 8 + 8 ≤ length l → rest (set_word l k v) ≡ rest l
-unfolding set_word
-rest_set_word l k v h =
-    let n = length_set_word l k v in
-    ext_get_or 0 (rest (set_word l k v)) (rest l) (length_rest (set_word l k v) ∙ ap (λ (x : ℕ). x % 8) n ∙ sym (length_rest l))
-    (λ i b. get_or_rest (set_word l k v) i
-    ∙ ap (λ (x : ℕ). get_or (set_word l k v) (x / 8 * 8 + i) 0) n
-    ∙ get_or_sets_after (bytes_of 8 v) l (k * 8) (length l / 8 * 8 + i) 0 (rw length_bytes_of (omega arith))
-    ∙ sym (get_or_rest l i))
 
 -- a store at one of them is not seen in the words
 pub words_miss : (l : List ℕ) (i x : ℕ) → length l / 8 * 8 ≤ i → words (set l i x) ≡ words l
@@ -185,27 +122,6 @@ words_inj l m bl bm d e w = bytes_fixed l m bl bm w (none l d ∙ sym (none m (s
   where
     none : (k : List ℕ) → length k % 8 ≡ 0 → rest k ≡ []
     none k z = ext_get_or 0 (rest k) [] (length_rest k ∙ z) (λ i a. absurd (omega (arith, length_rest k)))
-
--- a word by halves
-le8_is : (l : List ℕ) (k : ℕ) → le8 l (k * 8) ≡ word l k
-unfolding word value
-le8_is l k = simp towards_numerals (omega arith)
-
--- and for a store
-set8_is : (l : List ℕ) (k v : ℕ) → set8 l (k * 8) v ≡ set_word l k v
-unfolding set2 set_word bytes_of
-set8_is l k v = simp towards_numerals
-
--- a store of a word at a place of the bytes
-pub put_of : (l : List ℕ) (k v : ℕ) (l' : List ℕ) → k * 8 + 8 ≤ length l → v < 2 ^ 64 → l' ≡ set8 l (k * 8) v → Writes l l' (set (words l) k v)
-put_of l k v l' h f e = record {
-  words = ap words (e ∙ set8_is l k v) ∙ words_set_word l k v (omega (arith, length_words l)) f;
-  rest = ap rest (e ∙ set8_is l k v) ∙ rest_set_word l k v h;
-}
-
--- a read of a word
-pub get_of : (l : List ℕ) (k v : ℕ) → k * 8 + 8 ≤ length l → v ≡ le8 l (k * 8) → v ≡ get_or (words l) k 0
-get_of l k v h e = e ∙ le8_is l k ∙ sym (get_d_words l k (omega (arith, length_words l)))
 
 -- bytes below 256 make a number of so many bytes
 value_below : (n : ℕ) (l : List ℕ) (o : ℕ) → ((i : ℕ) → get_or l i 0 < 256) → value n l o < 256 ^ n
@@ -283,3 +199,104 @@ module _ (l : List ℕ) (f n : ℕ) (h : (f + n) * 8 ≤ length l) where
   words_put p e =
       words_append f (take (f * 8) l) (p ++ drop (n * 8) (drop (f * 8) l)) (length-take-le (f * 8) l (omega arith))
       ∙ rw (words_append n p (drop (n * 8) (drop (f * 8) l)) e, words_take l f (omega arith), words_drop (drop (f * 8) l) n (rw length-drop (omega arith)), words_drop l f (omega arith))
+
+-- ---- a word that is read and one that is stored
+
+-- chunk k of eight bytes
+chunk : (n : ℕ) (l : List ℕ) (k : ℕ) → k < n → get_or (first_chunks 8 n l) k [] ≡ take 8 (drop (k * 8) l)
+chunk zero l k h = absurd (not-suc-le-zero h)
+chunk (suc n) l zero h = refl
+chunk (suc n) l (suc k) h =
+    let e : suc k * 8 ≡ 8 + k * 8 = omega arith in
+    chunk n (drop 8 l) k (le_of_suc-le-suc h) ∙ rw (e, ← (drop-drop (k * 8) 8 l)) refl
+
+-- a word, by the library's name of it
+word_bytes : (l : List ℕ) (k : ℕ) → word l k ≡ from_le_bytes w64 (take 8 (drop (k * 8) l))
+unfolding word value
+word_bytes l k =
+    value_shift 8 l (take 8 (drop (k * 8) l)) (k * 8) 0 (λ i a. rw zero-add (sym (get_or-take 8 (drop (k * 8) l) i 0 a ∙ get_or-drop (k * 8) l i 0))) ∙ omega arith
+
+-- a read of a word
+pub get_of : (l : List ℕ) (k v : ℕ) → k * 8 + 8 ≤ length l → v ≡ from_le_bytes w64 (get_or (first_chunks 8 (length l / 8) l) k []) → v ≡ get_or (words l) k 0
+get_of l k v h e =
+    e ∙ rw (chunk (length l / 8) l k (omega arith)) (sym (word_bytes l k)) ∙ sym (get_d_words l k (omega (arith, length_words l)))
+
+-- ---- bytes between two words, written over
+
+module _ (l s : List ℕ) (o m : ℕ) (h : (o + m) * 8 ≤ length l) (k : m * 8 ≤ length s) where
+  -- the words
+  pasted : words (paste l (o * 8) s (m * 8)) ≡ paste (words l) o (words s) m
+  pasted =
+      let f : length (take (o * 8) l) ≡ o * 8 = length-take-le (o * 8) l (omega arith) in
+      let g : length (take (m * 8) s) ≡ m * 8 = length-take-le (m * 8) s k in
+      let e : o * 8 + m * 8 ≡ (o + m) * 8 = omega arith in
+      words_append (o + m) (take (o * 8) l ++ take (m * 8) s) (drop (o * 8 + m * 8) l) (rw length-append (omega arith))
+      ∙ rw (words_append o (take (o * 8) l) (take (m * 8) s) f, words_take l o (omega arith), words_take s m k, e, words_drop l (o + m) h) refl
+
+  -- the bytes behind them
+  behind_pasted : (n : ℕ) → o * 8 + m * 8 ≤ n → drop n (paste l (o * 8) s (m * 8)) ≡ drop n l
+  behind_pasted n a =
+      let i : ℕ = o * 8 + m * 8 in
+      let e : n ≡ i + (n - i) = omega arith in
+      rw e (sym (drop-drop (n - i) i (paste l (o * 8) s (m * 8))) ∙ ap (drop (n - i)) (drop-paste l (o * 8) s (m * 8) (omega arith) k) ∙ drop-drop (n - i) i l)
+
+  -- what is left
+  pub written : Writes l (paste l (o * 8) s (m * 8)) (paste (words l) o (words s) m)
+  unfolding rest
+  written = record {
+    words = pasted;
+    rest =
+        ap (λ (n : ℕ). drop (n / 8 * 8) (paste l (o * 8) s (m * 8))) (length-paste l (o * 8) s (m * 8) (omega arith) k)
+        ∙ behind_pasted (length l / 8 * 8) (omega arith);
+  }
+
+-- words that move
+pub move_of : (l l' : List ℕ) (to from m n : ℕ) → (to + m) * 8 ≤ length l → (from + m) * 8 ≤ length l → n ≡ m * 8
+    → l' ≡ paste l (to * 8) (drop (from * 8) l) n → Writes l l' (paste (words l) to (drop from (words l)) m)
+move_of l l' to from m n h k e q =
+    rw (q, e, ← (words_drop l from (omega arith))) (written l (drop (from * 8) l) to m h (rw length-drop (omega arith)))
+
+-- words that are cleared
+no_value : (n : ℕ) (l : List ℕ) (o : ℕ) → ((i : ℕ) → get_or l i 0 ≡ 0) → value n l o ≡ 0
+unfolding value
+no_value zero l o h = refl
+no_value (suc n) l o h = omega (arith, h o, no_value n l (suc o) h)
+
+words_zero : (n : ℕ) → words (replicate (n * 8) 0) ≡ zeros n
+unfolding word
+words_zero n =
+    let e : length (words (replicate (n * 8) 0)) ≡ n = length_words (replicate (n * 8) 0) ∙ rw length-replicate (omega arith) in
+    ext_get_or 0 (words (replicate (n * 8) 0)) (zeros n) (e ∙ sym (length-replicate n 0))
+    (λ i a. get_d_words (replicate (n * 8) 0) i a
+    ∙ no_value 8 (replicate (n * 8) 0) (i * 8) (zero_at (n * 8))
+    ∙ sym (get_or-replicate n i 0 0 (omega arith)))
+
+pub wipe_of : (l p : List ℕ) (o n k m : ℕ) → (o + n) * 8 ≤ length l → k ≡ n * 8 → m ≡ n * 8 → p ≡ replicate m 0
+    → Writes l (put_part (o * 8) k l p) (wipe o n (words l))
+wipe_of l p o n k m h e f q =
+    rw (put_mid-paste (o * 8) k l p (replicate m 0) m q (f ∙ sym e) (sym (length-replicate m 0)), f, ← (words_zero n))
+    (written l (replicate (n * 8) 0) o n h (rw length-replicate (omega arith)))
+
+-- a word that is stored
+words_of : (v : ℕ) → v < 2 ^ 64 → words (to_le_bytes w64 v) ≡ v ∷ []
+unfolding words tab
+words_of v f = ap (λ (x : ℕ). x ∷ []) (word_bytes (to_le_bytes w64 v) 0 ∙ from_le_bytes-to_le_bytes_8 v f)
+
+-- the eight bytes p, one after the other
+unfoldable pub stores : List ℕ → ℕ → List ℕ → List ℕ
+stores l o p =
+    set (set (set (set (set (set (set (set l o (get_or p 0 0)) (o + 1) (get_or p 1 0)) (o + 2) (get_or p 2 0)) (o + 3) (get_or p 3 0))
+    (o + 4) (get_or p 4 0)) (o + 5) (get_or p 5 0)) (o + 6) (get_or p 6 0)) (o + 7) (get_or p 7 0)
+
+stores_are : (l : List ℕ) (o v : ℕ) → stores l o (to_le_bytes w64 v) ≡ sets l o (to_le_bytes w64 v)
+unfolding stores
+stores_are l o v = simp towards_numerals
+
+pub put_of : (l p : List ℕ) (k v : ℕ) → k * 8 + 8 ≤ length l → v < 2 ^ 64 → p ≡ to_le_bytes w64 v → Writes l (stores l (k * 8) p) (set (words l) k v)
+put_of l p k v h f q =
+    let i : k < length (words l) = omega (arith, length_words l) in
+    let w : set (words l) k v ≡ paste (words l) k (v ∷ []) 1 =
+    set_split (words l) k v i ∙ ap (λ (j : ℕ). take k (words l) ++ v ∷ drop j (words l)) {x = suc k} {y = k + 1} (omega arith)
+    ∙ sym (paste_all (words l) k (v ∷ []) 1 refl) in
+    let s = rw (words_of v f) at (written l (to_le_bytes w64 v) k 1 (omega arith) (omega arith)) in
+    rw (q, stores_are, sets-eq (to_le_bytes w64 v) l (k * 8) h, w) s

@@ -1,30 +1,19 @@
 -- The account's laws, which the crates above cite: what question 1 tells, that every call keeps it, what each call does to the line. Assumes nothing.
-use Rattle.std.specs.Prelude.{Bool, true, false, cond, ◌&&◌, ◌≡◌, refl, ℕ, ◌+◌, ◌-◌, ◌%◌, ◌≤◌, ◌<◌, leb}
+use Rattle.std.specs.Prelude.{Bool, true, false, cond, ◌&&◌, ◌≡◌, refl, ℕ, ◌+◌, ◌-◌, ◌%◌, ◌≤◌, ◌<◌, leb, Result, IfOk}
 use Rattle.std.proofs.Common.{sym, ap, ◌∙◌, arith, mod-lt, add-sub_cancel, leb-true, eqb-true, le-leb}
-use Rattle.std.proofs.lemmas.Bool.{lt-leb}
+use Rattle.std.proofs.lemmas.Bool.{lt-leb, and_parts}
 use Rattle.carv_budget.specs.declared.Account.{Account}
+use Rattle.carv_budget.specs.declared.BudgetError.{BudgetError}
 use Rattle.carv_budget.specs.declared.Outcome.{Outcome}
-use Rattle.carv_budget.specs.declared.CarveOut.{CarveOut}
 use Rattle.carv_budget.specs.Account.{period, sound, fresh, with_cpu, due, renew, free, spend, charge, credit, reserve, return, returnable, spent, carved, open_account, refill, charge_cpu, charge_memory, release_memory, carve_out, release_child}
-
 -- tests joined by "and"
-pub both : (a b : Bool) → a ≡ true → b ≡ true → (a && b) ≡ true
-both a b p q = rw (p, q)
-
-pub not_first : (a b : Bool) → a ≡ false → (a && b) ≡ false
-not_first a b p = rw p
-
-pub not_second : (a b : Bool) → b ≡ false → (a && b) ≡ false
-not_second true b p = p
-not_second false b p = refl
+pub use Rattle.std.proofs.lemmas.Bool.{and_from as both, and_left as not_first, and_right as not_second}
 
 pub first : (a b : Bool) → (a && b) ≡ true → a ≡ true
-first true b p = refl
-first false b p = p
+first a b p = (and_parts a b p).0
 
 pub second : (a b : Bool) → (a && b) ≡ true → b ≡ true
-second true b p = p
-second false b p = cc
+second a b p = (and_parts a b p).1
 
 -- question 1 as facts; `sound_told` and `sound_shown` say that the test and the facts are the same
 pub record Sound (a : Account) : Type 0 where
@@ -34,11 +23,8 @@ pub record Sound (a : Account) : Type 0 where
 
 pub sound_told : {a : Account} → sound a ≡ true → Sound a
 unfolding sound
-sound_told {a} p =
-    let m : Bool = leb (a.memory_used + a.memory_reserved) a.memory_limit in
-    let c : Bool = leb (a.cpu_left + a.cpu_reserved) a.cpu_allowance in
-    let s : Bool = leb a.cpu_allowance period in
-    record { memory = leb-true _ _ (first m c (first (m && c) s p)); cpu = leb-true _ _ (second m c (first (m && c) s p)); share = leb-true _ _ (second (m && c) s p) }
+sound_told p =
+    record { memory = leb-true _ _ (search (first, second, p)); cpu = leb-true _ _ (search (first, second, p)); share = leb-true _ _ (search (first, second, p)) }
 
 pub sound_shown : {a : Account} → Sound a → sound a ≡ true
 unfolding sound
@@ -114,33 +100,34 @@ return_sound a child p = let s : Sound a = sound_told p in sound_shown (record {
 
 -- So each call leaves sound accounts, accepted or refused.
 
-pub open_account_kept : (cpu memory time : ℕ) → sound (open_account cpu memory time).account ≡ true
+-- the account of an accepted opening
+pub open_account_kept : (cpu memory time : ℕ) → IfOk (open_account cpu memory time) (λ a. sound a ≡ true)
 open_account_kept cpu memory time =
-    picks (λ (r : Outcome). sound r.account ≡ true) (leb cpu period) _ _ (λ p. fresh_sound cpu memory time (leb-true cpu period p)) (λ _. fresh_sound 0 0 0 (omega arith))
+    picks (λ (r : Result Account BudgetError). IfOk r (λ a. sound a ≡ true)) (leb cpu period) _ _ (λ p. fresh_sound cpu memory time (leb-true cpu period p)) (λ _. tt)
 
 pub refill_kept : (a : Account) (time : ℕ) → sound a ≡ true → sound (refill a time).account ≡ true
 refill_kept a time p =
-    rw p (picks (λ (r : Outcome). sound r.account ≡ true) (due a time) _ _ (λ _. renew_sound a time p) (λ _. renew_sound a time p))
+    rw p (renew_sound a time p)
 
 pub spent_kept : (a : Account) (ns : ℕ) → sound a ≡ true → sound (spent a ns).account ≡ true
 unfolding spent
-spent_kept a ns p = picks (λ (r : Outcome). sound r.account ≡ true) (leb ns a.cpu_left) _ _ (λ _. spend_sound a ns p) (λ _. p)
+spent_kept a ns p = picks (λ (r : Outcome (Unit {0})). sound r.account ≡ true) (leb ns a.cpu_left) _ _ (λ _. spend_sound a ns p) (λ _. p)
 
 pub charge_cpu_kept : (a : Account) (ns time : ℕ) → sound a ≡ true → sound (charge_cpu a ns time).account ≡ true
 charge_cpu_kept a ns time p = rw p (spent_kept (renew a time) ns (renew_sound a time p))
 
 pub charge_memory_kept : (a : Account) (bytes : ℕ) → sound a ≡ true → sound (charge_memory a bytes).account ≡ true
 charge_memory_kept a bytes p =
-    rw p (picks (λ (r : Outcome). sound r.account ≡ true) (leb bytes (free a)) _ _ (λ q. charge_sound a bytes p (leb-true bytes (free a) q)) (λ _. p))
+    rw p (picks (λ (r : Outcome (Unit {0})). sound r.account ≡ true) (leb bytes (free a)) _ _ (λ q. charge_sound a bytes p (leb-true bytes (free a) q)) (λ _. p))
 
 pub release_memory_kept : (a : Account) (bytes : ℕ) → sound a ≡ true → sound (release_memory a bytes).account ≡ true
 release_memory_kept a bytes p =
-    rw p (picks (λ (r : Outcome). sound r.account ≡ true) (leb bytes a.memory_used) _ _ (λ _. credit_sound a bytes p) (λ _. p))
+    rw p (picks (λ (r : Outcome (Unit {0})). sound r.account ≡ true) (leb bytes a.memory_used) _ _ (λ _. credit_sound a bytes p) (λ _. p))
 
--- of a carve-out, the parent and the child
-pub record BothSound (r : CarveOut) : Type 0 where
-  pub parent : sound r.parent ≡ true
-  pub child : sound r.child ≡ true
+-- of a carve-out, the parent and the child that it gives
+pub record BothSound (r : Outcome Account) : Type 0 where
+  pub parent : sound r.account ≡ true
+  pub child : IfOk r.answer (λ c. sound c ≡ true)
 
 pub carved_kept : (a : Account) (ns bytes : ℕ) → sound a ≡ true → BothSound (carved a ns bytes)
 unfolding carved
@@ -148,16 +135,16 @@ carved_kept a ns bytes p =
     picks BothSound (leb ns a.cpu_left) _ _
     (λ q. picks BothSound (leb bytes (free a)) _ _
     (λ r. record { parent = reserve_sound a ns bytes p (leb-true _ _ q) (leb-true _ _ r); child = carved_child_sound a ns bytes p (leb-true _ _ q) })
-    (λ _. record { parent = p; child = fresh_sound 0 0 0 (omega arith) }))
-    (λ _. record { parent = p; child = fresh_sound 0 0 0 (omega arith) })
+    (λ _. record { parent = p; child = tt }))
+    (λ _. record { parent = p; child = tt })
 
 pub carve_out_kept : (a : Account) (ns bytes time : ℕ) → sound a ≡ true → BothSound (carve_out a ns bytes time)
 carve_out_kept a ns bytes time p = rw p (carved_kept (renew a time) ns bytes (renew_sound a time p))
 
 pub release_child_kept : (a child : Account) → sound a ≡ true → sound (release_child a child).account ≡ true
 release_child_kept a child p =
-    rw p (picks (λ (r : Outcome). sound r.account ≡ true) (sound child) _ _
-    (λ _. picks (λ (r : Outcome). sound r.account ≡ true) (returnable a child) _ _ (λ _. return_sound a child p) (λ _. p))
+    rw p (picks (λ (r : Outcome (Unit {0})). sound r.account ≡ true) (sound child) _ _
+    (λ _. picks (λ (r : Outcome (Unit {0})). sound r.account ≡ true) (returnable a child) _ _ (λ _. return_sound a child p) (λ _. p))
     (λ _. p))
 
 -- What a renewal does to the line: the reservations and the memory used stay, and CPU left becomes what is not reserved, where it is due.

@@ -1,11 +1,11 @@
 -- The calls of document 01 answer and leave what the Rust's methods do, on every sound account: only question 1 is added. Assumes nothing.
-use Rattle.std.specs.Prelude.{Bool, true, false, cond, not, ◌&&◌, ◌||◌, ◌≡◌, refl, ℕ, ◌-◌, leb, ltb}
+use Rattle.std.specs.Prelude.{Bool, true, false, cond, not, ◌&&◌, ◌||◌, ◌≡◌, refl, ℕ, ◌-◌, leb, ltb, Ok, Err}
 use Rattle.std.proofs.Common.{leb-true, leb-false, le-ltb, lt-ltb}
 use Rattle.carv_budget.specs.declared.Account.{Account}
-use Rattle.carv_budget.specs.declared.Answer.TheVariants.{Done, Renewed, NotDue, CpuBudgetExceedsPeriod, CpuLimitReached, CpuLimitExceeded, MemoryLimitExceeded}
-use Rattle.carv_budget.specs.Account.{sound, with_cpu, due, renew, spent, carved, returnable, blank, fresh, free, spend, charge, credit, reserve, return, outcome, carve_outcome, open_account, refill, charge_cpu, charge_memory, release_memory, carve_out, release_child}
+use Rattle.carv_budget.specs.declared.BudgetError.TheVariants.{CpuBudgetExceedsPeriod, CpuLimitReached, CpuLimitExceeded, MemoryLimitExceeded}
+use Rattle.carv_budget.specs.Account.{sound, with_cpu, due, renew, spent, carved, returnable, fresh, free, spend, charge, credit, reserve, return, outcome, done, refused, open_account, refill, charge_cpu, charge_memory, release_memory, carve_out, release_child}
 use Rattle.carv_budget.specs.Rust as rust
-use Rattle.carv_budget.specs.Replies.{error, opening_of, refill_of, charge_of, outcome_of, carve_out_of}
+use Rattle.carv_budget.specs.Replies.{error, answer, refill_of, charge_of, outcome_of}
 use Rattle.carv_budget.specs.Rust.{BudgetError, cpu_budget_exceeds_period, cpu_limit_exceeded, memory_limit_exceeded, memory_limit_reached, memory_underflow, reservation_underflow, ok, err, gives}
 
 -- The Rust asks `n > m` where 01 asks n ≤ m, and joins refusals by "or" where 01 joins questions by "and".
@@ -22,7 +22,7 @@ neither false b = refl
 
 -- Each method's tests as Bools.
 
-open_by : (b : Bool) (x : Account) → cond b (outcome Done x) (outcome CpuBudgetExceedsPeriod blank) ≡ opening_of (cond (not b) (err cpu_budget_exceeds_period) (ok x))
+open_by : (b : Bool) (x : Account) → cond b (Ok x) (Err CpuBudgetExceedsPeriod) ≡ answer (cond (not b) (err cpu_budget_exceeds_period) (ok x))
 open_by true x = refl
 open_by false x = refl
 
@@ -33,21 +33,17 @@ refill_by true true a start left = refl
 refill_by true false a start left = refl
 refill_by false c a start left = refl
 
-renewal_by : (b : Bool) (x : Account) → cond b (outcome Renewed x) (outcome NotDue x) ≡ refill_of (gives x b)
-renewal_by true x = refl
-renewal_by false x = refl
-
-charge_by : (b : Bool) (a x : Account) → cond b (outcome Done x) (outcome CpuLimitReached a) ≡ charge_of (cond (not b) (gives a false) (gives x true))
+charge_by : (b : Bool) (a x : Account) → cond b (done x) (refused CpuLimitReached a) ≡ charge_of (cond (not b) (gives a false) (gives x true))
 charge_by true a x = refl
 charge_by false a x = refl
 
-answer_by : (b : Bool) (e : BudgetError) (a x : Account) → cond b (outcome Done x) (outcome (error e) a) ≡ outcome_of (cond (not b) (gives a (err e)) (gives x (ok tt)))
+answer_by : (b : Bool) (e : BudgetError) (a x : Account) → cond b (done x) (refused (error e) a) ≡ outcome_of (cond (not b) (gives a (err e)) (gives x (ok tt)))
 answer_by true e a x = refl
 answer_by false e a x = refl
 
 carve_by : (b c : Bool) (a x y : Account)
-    → cond b (cond c (carve_outcome Done x y) (carve_outcome MemoryLimitExceeded a blank)) (carve_outcome CpuLimitExceeded a blank)
-    ≡ carve_out_of (cond (not b) (gives a (err cpu_limit_exceeded)) (cond (not c) (gives a (err memory_limit_exceeded)) (gives x (ok y))))
+    → cond b (cond c (outcome (Ok y) x) (refused MemoryLimitExceeded a)) (refused CpuLimitExceeded a)
+    ≡ outcome_of (cond (not b) (gives a (err cpu_limit_exceeded)) (cond (not c) (gives a (err memory_limit_exceeded)) (gives x (ok y))))
 carve_by true true a x y = refl
 carve_by true false a x y = refl
 carve_by false c a x y = refl
@@ -62,17 +58,17 @@ spent_rust : (a : Account) (ns : ℕ) → spent a ns ≡ charge_of (rust.charge_
 unfolding rust.charge_cpu_refilled spent
 spent_rust a ns = rw (over ns a.cpu_left) (charge_by (leb ns a.cpu_left) a _)
 
-carved_rust : (a : Account) (ns bytes : ℕ) → carved a ns bytes ≡ carve_out_of (rust.carve_out_refilled a ns bytes)
+carved_rust : (a : Account) (ns bytes : ℕ) → carved a ns bytes ≡ outcome_of (rust.carve_out_refilled a ns bytes)
 unfolding rust.carve_out_refilled carved
 carved_rust a ns bytes = rw (over ns a.cpu_left, over bytes (free a)) (carve_by (leb ns a.cpu_left) (leb bytes (free a)) a _ _)
 
 -- The theorems: an opening, and each call that passes question 1, answers and leaves what the Rust's method does.
 
-pub open_account_rust : (cpu memory time : ℕ) → open_account cpu memory time ≡ opening_of (rust.new cpu rust.cpu_period_ns memory time)
+pub open_account_rust : (cpu memory time : ℕ) → open_account cpu memory time ≡ answer (rust.new cpu rust.cpu_period_ns memory time)
 open_account_rust cpu memory time = rw (over cpu rust.cpu_period_ns) (open_by (leb cpu rust.cpu_period_ns) _)
 
 pub refill_rust : (a : Account) (time : ℕ) → sound a ≡ true → refill a time ≡ refill_of (rust.refill a time)
-refill_rust a time p = rw (p, refill_renews a time) (renewal_by (due a time) (renew a time))
+refill_rust a time p = rw (p, refill_renews a time)
 
 pub charge_cpu_rust : (a : Account) (ns time : ℕ) → sound a ≡ true → charge_cpu a ns time ≡ charge_of (rust.charge_cpu a ns time)
 charge_cpu_rust a ns time p = rw (p, refill_renews a time) (spent_rust (renew a time) ns)
@@ -85,7 +81,7 @@ pub release_memory_rust : (a : Account) (bytes : ℕ) → sound a ≡ true → r
 unfolding rust.release_memory
 release_memory_rust a bytes p = rw (p, over bytes a.memory_used) (answer_by (leb bytes a.memory_used) memory_underflow a _)
 
-pub carve_out_rust : (a : Account) (ns bytes time : ℕ) → sound a ≡ true → carve_out a ns bytes time ≡ carve_out_of (rust.carve_out a ns bytes time)
+pub carve_out_rust : (a : Account) (ns bytes time : ℕ) → sound a ≡ true → carve_out a ns bytes time ≡ outcome_of (rust.carve_out a ns bytes time)
 carve_out_rust a ns bytes time p = rw (p, refill_renews a time) (carved_rust (renew a time) ns bytes)
 
 pub release_child_rust : (a child : Account) → sound a ≡ true → sound child ≡ true → release_child a child ≡ outcome_of (rust.release_child true a child)

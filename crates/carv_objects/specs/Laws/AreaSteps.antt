@@ -1,9 +1,10 @@
 -- What the functions on one part of the area leave. Assumes nothing.
-use Prim.Native.Nat.{ℕ, zero, suc, ◌+◌, ◌*◌, ◌-◌, ◌^◌, ◌/◌, ◌≤◌, ◌<◌}
-use Rattle.std.proofs.Common.{arith, add-one, eq-eqb, ne_eqb, ltb-true, lt-ltb, le-ltb, sym, ap, ◌∙◌, subst, get_or-set_same}
-use Rattle.std.specs.Prelude.{true, false, ◌&&◌, ◌≡◌, length, get_or, set}
+use Prim.Native.Nat.{ℕ, zero, suc, ◌+◌, ◌*◌, ◌/◌, ◌≤◌, ◌<◌}
+use Rattle.std.proofs.Common.{arith, add-one, ltb-true, sym, ap, ◌∙◌, subst, get_or-set_same}
+use Rattle.std.specs.Prelude.{Bool, true, false, ◌&&◌, ◌≡◌, length, get_or, set, Option, Some, None}
 use mathlib.Core.List.{List, [], ◌∷◌, ◌++◌}
 use Rattle.carv_area.specs.Table.{Row, Rising}
+use Rattle.std.specs.Bool.{then_some}
 use Rattle.carv_area.specs.Laws.Table.{rising_weaken, rising_snoc}
 use Rattle.carv_area.specs.Words.{words}
 use Rattle.carv_area.specs.Laws.Words.{length_words}
@@ -15,12 +16,10 @@ use Rattle.carv_area.specs.Keys.{keys, find_in}
 use Rattle.carv_area.specs.Stored.{Stored, Keyed}
 use Rattle.carv_area.specs.Laws.Stored.{stored_room, stored_remove}
 use Rattle.carv_area.specs.Lookup.{Located, Here, Gone}
-use Rattle.carv_area.specs.declared.Found.{Found}
-use Rattle.carv_area.specs.declared.Found.TheVariants.{At, Nothing}
-use Rattle.carv_budget.specs.declared.Account.{Account}
-use Rattle.carv_budget.proofs.Laws.Account.{both, not_first, not_second, first, second}
+use Rattle.carv_budget.proofs.Laws.Account.{first}
 use Rattle.carv_objects_spec.specs.declared.Entry.{Entry}
-use Rattle.carv_objects_spec.specs.Registry.{Registry, or_missing, found, entry, has, is_budget, on_account, on_charge, budget, object, add, has_place, has_next}
+use Rattle.carv_objects_spec.specs.Kinds.{is_budget_kind}
+use Rattle.carv_objects_spec.specs.Registry.{Registry, or_missing, found, entry, has, is_budget, has_place, has_next}
 use Rattle.carv_objects.specs.Area.{head, table, fields, row_at, rows_in, decode}
 use Rattle.carv_objects.specs.Laws.Rows.{row, no_row, wide, set_row, row_at_is, rows_keyed, rows_located, row_room, row_written, row_appended}
 use Rattle.carv_objects.specs.Laws.Formed.{WellFormed, Leaves, leaves, length_head, table_written}
@@ -58,7 +57,7 @@ module _ (a : List ℕ) (k : WellFormed a) where
   pub table_keyed : Keyed 11 (table a)
   table_keyed = rows_keyed (table a) (decode a).rows k.rows (decode a).next k.rising
 
-  pub found_is : (x : ℕ) (p : Found) → p ≡ find_in (keys 11 (words (table a))) x → Located no_row (decode a).rows x p
+  pub found_is : (x : ℕ) (p : Option ℕ) → p ≡ find_in (keys 11 (words (table a))) x → Located no_row (decode a).rows x p
   found_is x p e = rows_located (table a) (decode a).rows k.rows x p e
 
   pub remove_room : (get_or (words (table a)) 0 0 * 11 + 1) * 8 ≤ length (table a)
@@ -129,22 +128,16 @@ appended t t' h r n l en room p q =
 -- The functions composed of these.
 
 -- what was found is a place, or none
-pub located_here : (rows : List (Row Entry)) (x : ℕ) (p : Found) → Located no_row rows x p → (i : ℕ) → p ≡ At i → Here no_row rows x i
+pub located_here : (rows : List (Row Entry)) (x : ℕ) (p : Option ℕ) → Located no_row rows x p → (i : ℕ) → p ≡ Some i → Here no_row rows x i
 located_here rows x p l i e = subst (Located no_row rows x) e l
 
-pub located_gone : (rows : List (Row Entry)) (x : ℕ) (p : Found) → Located no_row rows x p → p ≡ Nothing → Gone rows x
-located_gone rows x p l e = subst (Located no_row rows x) e l
-
 -- the place of a budget
-abbrev pub BudgetAt : Registry → ℕ → Found → Type 0
-BudgetAt r x (At i) = Here no_row r.rows x i × (is_budget r x ≡ true)
-BudgetAt r x Nothing = is_budget r x ≡ false
+abbrev pub BudgetAt : Registry → ℕ → Option ℕ → Type 0
+BudgetAt r x (Some i) = Here no_row r.rows x i × (is_budget r x ≡ true)
+BudgetAt r x None = is_budget r x ≡ false
 
-pub budget_here : (r : Registry) (x : ℕ) (p : Found) → BudgetAt r x p → (i : ℕ) → p ≡ At i → Here no_row r.rows x i × (is_budget r x ≡ true)
+pub budget_here : (r : Registry) (x : ℕ) (p : Option ℕ) → BudgetAt r x p → (i : ℕ) → p ≡ Some i → Here no_row r.rows x i × (is_budget r x ≡ true)
 budget_here r x p l i e = subst (BudgetAt r x) e l
-
-pub budget_gone : (r : Registry) (x : ℕ) (p : Found) → BudgetAt r x p → p ≡ Nothing → is_budget r x ≡ false
-budget_gone r x p l e = subst (BudgetAt r x) e l
 
 module _ (r : Registry) (x i : ℕ) (h : Here no_row r.rows x i) where
   pub here_entry : entry r x ≡ (get_or r.rows i no_row).it
@@ -154,18 +147,19 @@ module _ (r : Registry) (x i : ℕ) (h : Here no_row r.rows x i) where
   here_has = ap found h.is
 
   module _ (e : Entry) (q : e ≡ (get_or r.rows i no_row).it) where
-    pub here_budget : e.kind ≡ 6 → BudgetAt r x (At i)
-    here_budget k = (h, eq-eqb (entry r x).kind 6 (ap (λ (z : Entry). z.kind) (here_entry ∙ sym q) ∙ k))
+    here_kind : (b : Bool) → is_budget_kind e.kind ≡ b → is_budget r x ≡ b
+    here_kind b k = ap (λ (z : Entry). is_budget_kind z.kind) (here_entry ∙ sym q) ∙ k
 
-    pub here_other : (e.kind ≡ 6 → ⊥) → BudgetAt r x Nothing
-    here_other k = ne_eqb (entry r x).kind 6 (λ z. k (ap (λ (y : Entry). y.kind) (q ∙ sym here_entry) ∙ z))
+    pub here_budget : is_budget_kind e.kind ≡ true → BudgetAt r x (Some i)
+    here_budget k = (h, here_kind true k)
 
-    -- one field of the entry is written
-    pub account_set : (a : Account) → with_rows (set r.rows i (row x (record { kind = e.kind; payer = e.payer; charge = e.charge; account = a }))) r ≡ budget x (λ _. a) r
-    account_set a = rw q (ap (λ (m : List (Row Entry)). with_rows m r) (sym (h.changed (on_account (λ _. a)))))
+    pub here_other : is_budget_kind e.kind ≡ false → BudgetAt r x None
+    here_other k = here_kind false k
 
-    pub charge_set : (n : ℕ) → with_rows (set r.rows i (row x (record { kind = e.kind; payer = e.payer; charge = n; account = e.account }))) r ≡ object x (λ _. n) r
-    charge_set n = rw q (ap (λ (m : List (Row Entry)). with_rows m r) (sym (h.changed (on_charge (λ _. n)))))
+    -- and which of the two is asked
+    pub budget_told : (b : Bool) → b ≡ is_budget_kind e.kind → (p : Option ℕ) → p ≡ then_some b i → BudgetAt r x p
+    budget_told true k p t = subst (BudgetAt r x) (sym t) (here_budget (sym k))
+    budget_told false k p t = subst (BudgetAt r x) (sym t) (here_other (sym k))
 
 pub gone_budget : (r : Registry) (x : ℕ) → Gone r.rows x → is_budget r x ≡ false
 gone_budget r x h = rw (ap or_missing h.is)
@@ -174,22 +168,9 @@ pub gone_has : (r : Registry) (x : ℕ) → Gone r.rows x → has r x ≡ false
 gone_has r x h = ap found h.is
 
 -- room for one more
-pub room_full : (r : Registry) (n : ℕ) → n ≡ length r.rows → 512 ≤ n → false ≡ (has_place r && has_next r)
-room_full r n en h = sym (not_first (has_place r) (has_next r) (le-ltb (length r.rows) 512 (rw (← en) h)))
-
-pub room_last : (r : Registry) (x : ℕ) → x ≡ r.next → 18_446_744_073_709_551_615 ≤ x → false ≡ (has_place r && has_next r)
-room_last r x ex h = sym (not_second (has_place r) (has_next r) (le-ltb r.next (2 ^ 64 - 1) (rw (← ex) h)))
-
-pub room_there : (r : Registry) (n x : ℕ) → n ≡ length r.rows → x ≡ r.next → n < 512 → x < 18_446_744_073_709_551_615 → true ≡ (has_place r && has_next r)
-room_there r n x en ex h k =
-    sym (both (has_place r) (has_next r) (lt-ltb (length r.rows) 512 (rw (← en) h)) (lt-ltb r.next (2 ^ 64 - 1) (rw (← ex) k)))
-
 module _ (r : Registry) (h : (has_place r && has_next r) ≡ true) where
   pub room_place : length r.rows < 512
   room_place = ltb-true (length r.rows) 512 (first (has_place r) (has_next r) h)
-
-  pub room_next : r.next < 18_446_744_073_709_551_615
-  room_next = ltb-true r.next (2 ^ 64 - 1) (second (has_place r) (has_next r) h)
 
 -- `add`: the next id rises, and the entry stands under the id that was next
 module _ (r : Registry) (x : ℕ) (q : x ≡ r.next) (e : Entry) where
@@ -202,6 +183,3 @@ module _ (r : Registry) (x : ℕ) (q : x ≡ r.next) (e : Entry) where
 
     pub add_rising : Rising 1 r.next r.rows → Rising 1 r₁.next (r₁.rows ++ (row x e ∷ []))
     add_rising up = rw (l, q, add-one) (rising_snoc r.rows 1 r.next e up)
-
-    pub add_same : with_rows (r₁.rows ++ (row x e ∷ [])) r₁ ≡ add e r
-    add_same = rw (l, q, add-one)

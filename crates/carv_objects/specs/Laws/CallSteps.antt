@@ -1,14 +1,11 @@
 -- What `charge_more`, `uncharge` and `remove` leave: a place stays right where an account is written, and what is written by place is what document 01 says by id.
 -- Assumes nothing.
-use Rattle.std.specs.Prelude.{◌≡◌, refl, Bool, true, false, not, ◌&&◌, ◌||◌, List, [], ◌∷◌, ℕ, suc, ◌+◌, ◌*◌, ◌-◌, ◌^◌, ◌≤◌, ◌<◌, eqb, leb, length, get_or}
-use Rattle.std.proofs.Common.{sym, ap, ◌∙◌, subst, add-one, arith, drop_of_length-le, drop-cons, eqb-true, eq-eqb, ne_eqb, leb-true, le-leb}
-use Rattle.std.proofs.Math.Option.{none, some}
+use Rattle.std.specs.Prelude.{◌≡◌, refl, true, false, List, [], ◌∷◌, ℕ, ◌+◌, ◌*◌, ◌-◌, ◌^◌, ◌≤◌, ◌<◌, eqb, leb, length, get_or, Some, None, Ok, Err}
+use Rattle.std.proofs.Common.{sym, ap, ◌∙◌, subst, arith, eqb-true, leb-true, le-leb}
 use Rattle.std.proofs.lemmas.List.{length-map}
 use Rattle.std.proofs.Math.ListN.{get_or-map}
-use Rattle.std.proofs.Math.ListN as list
-use Rattle.std.proofs.lemmas.Bool.{lt-leb}
 use Rattle.carv_area.specs.Table.{Row, Rising, at, alter}
-use Rattle.carv_area.specs.Laws.Table.{test, alter_known, erase_alter, length_alter}
+use Rattle.carv_area.specs.Laws.Table.{test, alter_known, erase_alter}
 use Rattle.carv_area.specs.Words.{words}
 use Rattle.carv_area.specs.Laws.Words.{word_below}
 use Rattle.carv_area.specs.Laws.Parts.{part_bytes}
@@ -17,17 +14,15 @@ use Rattle.carv_area.specs.Keys.{find_in}
 use Rattle.carv_area.specs.Laws.Keys.{find_there}
 use Rattle.carv_area.specs.Lookup.{Here, Located}
 use Rattle.carv_area.specs.Laws.Lookup.{ids, located, rising_ids}
-use Rattle.carv_area.specs.declared.Found.{Found}
-use Rattle.carv_area.specs.declared.Found.TheVariants.{At, Nothing}
 use Rattle.carv_budget.specs.declared.Account.{Account}
 use Rattle.carv_budget.specs.Account as account
-use Rattle.carv_budget.proofs.Laws.Account.{not_second, renew_sound, renewal, return_sound, sound_told}
+use Rattle.carv_budget.proofs.Laws.Account.{renew_sound, renewal, return_sound, sound_told}
 use Rattle.carv_objects_spec.specs.declared.Entry.{Entry}
-use Rattle.carv_objects.specs.declared.Answer.{Answer}
-use Rattle.carv_objects.specs.declared.Answer.TheVariants.{Done, Refused}
+use Rattle.carv_objects.specs.declared.refusal.Refusal.TheVariants.{Pays}
 use Rattle.carv_objects_spec.specs.Reply.{accept}
-use Rattle.carv_objects.specs.Answer.{number, value}
-use Rattle.carv_objects_spec.specs.Registry.{Registry, found, entry, has, account_of, payer_of, pays_in, pays_for, on_account, on_charge, budget, object, drop, charge_more, uncharge, remove}
+use Rattle.carv_objects.specs.Answer.{nothing}
+use Rattle.carv_objects_spec.specs.Kinds.{is_budget_kind}
+use Rattle.carv_objects_spec.specs.Registry.{Registry, found, entry, has, account_of, payer_of, pays_for, on_account, on_charge, budget, object, drop, charge_more, uncharge, remove}
 use Rattle.carv_objects_spec.proofs.Laws.SoundFacts.{Sound}
 use Rattle.carv_objects_spec.proofs.Laws.SoundLaws.{account_sound}
 use Rattle.carv_objects_spec.proofs.Laws.Steps.{ObjectEntry, budget_entry, at_on_account}
@@ -52,41 +47,9 @@ module _ {A : Type 0} where
   pub here_moved : (d : Row A) (m : List (Row A)) (l n : ℕ) → d.id ≡ 0 → Rising l n m → (p : ℕ) (f : A → A) (x i : ℕ) → Here d m x i → Here d (alter p f m) x i
   here_moved d m l n z up p f x i h =
       let same : get_or (ids m) i 0 ≡ x = subst (λ (k : ℕ). get_or (ids m) i k ≡ (get_or m i d).id) z (get_or-map (λ r. r.id) m i d) ∙ h.same in
-      let k : find_in (ids (alter p f m)) x ≡ At i = ap (λ (ks : List ℕ). find_in ks x) (ids_alter m p f)
+      let k : find_in (ids (alter p f m)) x ≡ Some i = ap (λ (ks : List ℕ). find_in ks x) (ids_alter m p f)
       ∙ find_there (ids m) x i (rising_ids m l n up) (omega (arith, length-map m (λ r. r.id), h.within)) same in
       subst (Located d (alter p f m) x) k (located d (alter p f m) x)
-
--- the row with id k and payer p: is it another one that x pays for?
-module _ (k p x : ℕ) where
-  pub pays_self : k ≡ x → false ≡ (not (eqb k x) && eqb p x)
-  pays_self e = rw (eq-eqb k x e)
-
-  pub pays_other : (p ≡ x → ⊥) → false ≡ (not (eqb k x) && eqb p x)
-  pays_other h = sym (not_second (not (eqb k x)) (eqb p x) (ne_eqb p x h))
-
-  pub pays_there : (k ≡ x → ⊥) → p ≡ x → true ≡ (not (eqb k x) && eqb p x)
-  pays_there h e = rw (ne_eqb k x h, eq-eqb p x e)
-
--- the walk of `pays`: whether x pays for another object, from place i on
-module _ (m : List (Row Entry)) (x i : ℕ) (w : Bool) (k : pays_in (list.drop i m) x ≡ w) where
-  pub pays_ends : length m ≤ i → false ≡ w
-  pays_ends h = ap (λ (l : List (Row Entry)). pays_in l x) (sym (drop_of_length-le m h)) ∙ k
-
-  module _ (h : i < length m) (b : Bool) (q : b ≡ (not (eqb (get_or m i no_row).id x) && eqb (get_or m i no_row).it.payer x)) where
-    pays_turn : (b || pays_in (list.drop (suc i) m) x) ≡ w
-    pays_turn = rw q (sym (ap (λ (l : List (Row Entry)). pays_in l x) (drop-cons m i no_row h)) ∙ k)
-
-    pub pays_found : b ≡ true → true ≡ w
-    pays_found t = rw t at pays_turn
-
-    pub pays_on : b ≡ false → pays_in (list.drop (i + 1) m) x ≡ w
-    pays_on f = rw add-one (rw f at pays_turn)
-
--- an object that is there was found
-pub place_of : (r : Registry) (x : ℕ) → has r x ≡ true → (p : Found) → Located no_row r.rows x p → p ≡ Nothing → (i : ℕ) → Here no_row r.rows x i
-place_of r x h p l e i =
-    let g = subst (Located no_row r.rows x) e l in
-    let z : false ≡ true = sym (ap found g.is) ∙ h in let b : ◌≡◌ {A = ℕ} 0 1 = cc in absurd (omega arith)
 
 -- the account of p was written
 module _ (r r₁ : Registry) (p : ℕ) (y : Account) (l : r₁ ≡ budget p (λ _. y) r) where
@@ -94,19 +57,10 @@ module _ (r r₁ : Registry) (p : ℕ) (y : Account) (l : r₁ ≡ budget p (λ 
   moved_here up x i h =
       subst (λ (s : Registry). Here no_row s.rows x i) (sym l) (here_moved no_row r.rows 1 r.next refl up p (on_account (λ _. y)) x i h)
 
-  pub moved_charge : (x n : ℕ) → object x (λ _. n) r₁ ≡ object x (λ _. n) (budget p (λ _. y) r)
-  moved_charge x n = ap (object x (λ _. n)) l
-
-  pub moved_within : (i : ℕ) → i < length r.rows → i < length r₁.rows
-  moved_within i h = rw (l, length_alter) h
-
-  pub moved_out : (i : ℕ) → with_rows (remove_at r₁.rows i) r₁ ≡ with_rows (remove_at (budget p (λ _. y) r).rows i) r
-  moved_out i = ap (λ (s : Registry). with_rows (remove_at s.rows i) s) l
-
 -- The object x at place i, its entry e; its payer at place j, with the account y.
 module _ (r : Registry) (s : Sound r) (x i : ℕ) (h : Here no_row r.rows x i) (e : Entry) (q : e ≡ (get_or r.rows i no_row).it) where
-  object_at : at r.rows x ≡ some e
-  object_at = h.is ∙ ap some (sym q)
+  object_at : at r.rows x ≡ Some e
+  object_at = h.is ∙ ap Some (sym q)
 
   pub object_read : entry r x ≡ e
   object_read = here_entry r x i h ∙ sym q
@@ -179,13 +133,6 @@ limit_fits a k b j h =
     subst (λ (t : Row Entry). t.it.account.memory_limit < 2 ^ 64) (row_at_is (words (table a)) (decode a).rows k.rows.holds j h)
     (word_below (table a) (j * 11 + 6) (part_bytes 8 45_064 a (omega (arith, k.size)) b))
 
--- `uncharge` of more than the charge
-pub uncharge_refused : (a : List ℕ) (s : sound_area a ≡ true) (x i : ℕ) (h : Here no_row (decode a).rows x i) (e : Entry) → e ≡ (get_or (decode a).rows i no_row).it
-    → (n : ℕ) → e.charge < n → Serves (uncharge x n) a (Refused 11) a
-uncharge_refused a s x i h e q n b =
-    refused (uncharge x n) a s 11 (asks.uncharge_above x n (decode a) (here_has (decode a) x i h)
-    (rw (object_read (decode a) (area_sound a s) x i h e q) (lt-leb n e.charge b)))
-
 -- The calls, of the object x at place i of a sound area, its entry e; its payer at place j, with the account y.
 module _ (a : List ℕ) (s : sound_area a ≡ true) (x i : ℕ) (h : Here no_row (decode a).rows x i) (e : Entry) (q : e ≡ (get_or (decode a).rows i no_row).it)
     (j : ℕ) (p : Here no_row (decode a).rows e.payer j) (y : Account) (w : y ≡ (get_or (decode a).rows j no_row).it.account) where
@@ -205,24 +152,20 @@ module _ (a : List ℕ) (s : sound_area a ≡ true) (x i : ℕ) (h : Here no_row
         ap (λ (z : Account). z.memory_limit) w,
       )
 
-  pub charge_more_refused : (n : ℕ) → leb n (account.free y) ≡ false → Serves (charge_more x n) a (Refused 12) a
-  charge_more_refused n b =
-      refused (charge_more x n) a s 12 (asks.charge_more_cover x n r (here_has r x i h) (rw (payer_account r S x i h e q j p y w) b))
-
-  pub charge_more_served : (n : ℕ) (z : Account) → (leb n (account.free y) ≡ true) × (z ≡ account.charge y n) → (v : Answer) (a' : List ℕ)
-      → (v ≡ Done) × Leaves a' (object x (λ _. e.charge + n) (budget e.payer (λ _. z) r)) → Serves (charge_more x n) a v a'
-  charge_more_served n z b v a' l =
+  pub charge_more_served : (n : ℕ) (z : Account) → (leb n (account.free y) ≡ true) × (z ≡ account.charge y n) → (a' : List ℕ)
+      → Leaves a' (object x (λ _. e.charge + n) (budget e.payer (λ _. z) r)) → Serves (charge_more x n) nothing a (Ok tt) a'
+  charge_more_served n z b a' l =
       let k = asks.charge_more_done x n r (here_has r x i h) (rw (payer_account r S x i h e q j p y w) b.0) in
-      answered (charge_more x n) a s _ k v (ap number l.0) (ap value l.0) a'
-      (leaves_as a' _ _ (booked_is r S x i h e q j p y w (λ c. account.charge c n) (λ c. c + n) z b.1) l.1)
+      answered (charge_more x n) a s _ k (Ok tt) refl refl a'
+      (leaves_as a' _ _ (booked_is r S x i h e q j p y w (λ c. account.charge c n) (λ c. c + n) z b.1) l)
       (kept_at _ _ (kept.charge_more_kept x n r S) k)
 
-  pub uncharge_served : (n : ℕ) → n ≤ e.charge → (z : Account) → z ≡ account.credit y n → (v : Answer) (a' : List ℕ)
-      → (v ≡ Done) × Leaves a' (object x (λ _. e.charge - n) (budget e.payer (λ _. z) r)) → Serves (uncharge x n) a v a'
-  uncharge_served n b z u v a' l =
+  pub uncharge_served : (n : ℕ) → n ≤ e.charge → (z : Account) → z ≡ account.credit y n → (a' : List ℕ)
+      → Leaves a' (object x (λ _. e.charge - n) (budget e.payer (λ _. z) r)) → Serves (uncharge x n) nothing a (Ok tt) a'
+  uncharge_served n b z u a' l =
       let k = asks.uncharge_done x n r (here_has r x i h) (rw (object_read r S x i h e q) (le-leb n e.charge b)) in
-      answered (uncharge x n) a s _ k v (ap number l.0) (ap value l.0) a'
-      (leaves_as a' _ _ (booked_is r S x i h e q j p y w (λ c. account.credit c n) (λ c. c - n) z u) l.1)
+      answered (uncharge x n) a s _ k (Ok tt) refl refl a'
+      (leaves_as a' _ _ (booked_is r S x i h e q j p y w (λ c. account.credit c n) (λ c. c - n) z u) l)
       (kept_at _ _ (kept.uncharge_kept x n r S) k)
 
   module _ (not_root : x ≡ 1 → ⊥) (time : ℕ) where
@@ -234,25 +177,25 @@ module _ (a : List ℕ) (s : sound_area a ≡ true) (x i : ℕ) (h : Here no_row
       back_read : back y ≡ account.credit (account.return (f y) e.account) e.charge
       back_read = ap (λ (c : Entry). account.credit (account.return (f y) c.account) c.charge) (object_read r S x i h e q)
 
-      removed : (z : Account) → z ≡ back y → (k : remove x time r ≡ accept none (budget (payer_of r x) back (drop x r))) → (v : Answer) (a' : List ℕ)
-          → (v ≡ Done) × Leaves a' (with_rows (remove_at (budget e.payer (λ _. z) r).rows i) r) → Serves (remove x time) a v a'
-      removed z u k v a' l =
-          answered (remove x time) a s _ k v (ap number l.0) (ap value l.0) a'
-          (leaves_as a' _ _ (released_is r S x i h e q j p y w not_root back z u) l.1)
+      removed : (z : Account) → z ≡ back y → (k : remove x time r ≡ accept None (budget (payer_of r x) back (drop x r))) → (a' : List ℕ)
+          → Leaves a' (with_rows (remove_at (budget e.payer (λ _. z) r).rows i) r) → Serves (remove x time) nothing a (Ok tt) a'
+      removed z u k a' l =
+          answered (remove x time) a s _ k (Ok tt) refl refl a'
+          (leaves_as a' _ _ (released_is r S x i h e q j p y w not_root back z u) l)
           (kept_at _ _ (kept.remove_kept x time r S) k)
 
     -- an object that is no budget
-    pub remove_plain : (e.kind ≡ 6 → ⊥) → (z : Account) → z ≡ account.credit y e.charge → (v : Answer) (a' : List ℕ)
-        → (v ≡ Done) × Leaves a' (with_rows (remove_at (budget e.payer (λ _. z) r).rows i) r) → Serves (remove x time) a v a'
+    pub remove_plain : is_budget_kind e.kind ≡ false → (z : Account) → z ≡ account.credit y e.charge → (a' : List ℕ)
+        → Leaves a' (with_rows (remove_at (budget e.payer (λ _. z) r).rows i) r) → Serves (remove x time) nothing a (Ok tt) a'
     remove_plain other z u =
-        let blank : e.account ≡ account.blank = (S.each x e (h.is ∙ ap some (sym q))).plain (ne_eqb e.kind 6 other) in
+        let blank : e.account ≡ account.blank = (S.each x e (h.is ∙ ap Some (sym q))).plain other in
         let same : account.return y e.account ≡ y = ap (account.return y) blank ∙ return_blank y in
         removed (λ c. c) z (u ∙ sym (back_read (λ c. c) ∙ ap (λ (c : Account). account.credit c e.charge) same))
         (asks.remove_object x time r (here_has r x i h) not_root (here_other r x i h e q other))
 
-    module _ (k : e.kind ≡ 6) where
-      pub remove_in_use : pays_for r x ≡ true → Serves (remove x time) a (Refused 10) a
-      remove_in_use d = refused (remove x time) a s 10 (asks.remove_paying x time r (here_has r x i h) not_root (here_budget r x i h e q k).1 d)
+    module _ (k : is_budget_kind e.kind ≡ true) where
+      pub remove_in_use : pays_for r x ≡ true → Serves (remove x time) nothing a (Err Pays) a
+      remove_in_use d = refused (remove x time) a s Pays (asks.remove_paying x time r (here_has r x i h) not_root (here_budget r x i h e q k).1 d)
 
       module _ (d : pays_for r x ≡ false) where
         -- it can be returned
@@ -263,8 +206,8 @@ module _ (a : List ℕ) (s : sound_area a ≡ true) (x i : ℕ) (h : Here no_row
             ∙ kept.removal_returnable r x S (here_has r x i h) not_root (here_budget r x i h e q k).1 d
 
         pub remove_served : (z : Account) → z ≡ account.return (account.renew y time) e.account → (t : Account) → t ≡ account.credit z e.charge
-            → (v : Answer) (a' : List ℕ)
-            → (v ≡ Done) × Leaves a' (with_rows (remove_at (budget e.payer (λ _. t) r).rows i) r) → Serves (remove x time) a v a'
+            → (a' : List ℕ)
+            → Leaves a' (with_rows (remove_at (budget e.payer (λ _. t) r).rows i) r) → Serves (remove x time) nothing a (Ok tt) a'
         remove_served z b t u =
             removed (λ c. account.renew c time) t (u ∙ ap (λ (c : Account). account.credit c e.charge) b ∙ sym (back_read (λ c. account.renew c time)))
             (asks.remove_budget x time r (here_has r x i h) not_root (here_budget r x i h e q k).1 d)

@@ -1,24 +1,23 @@
 -- How a call's reply is met by what its code leaves: refused with the area as it came, or answered with the new state. Assumes nothing.
-use Rattle.std.specs.Prelude.{◌≡◌, refl, Bool, true, false, ◌&&◌, List, ℕ, get_or, leb}
+use Rattle.std.specs.Prelude.{◌≡◌, refl, Bool, true, false, ◌&&◌, List, ℕ, get_or, leb, Option, Some, None, Result, Err}
 use Rattle.std.proofs.Common.{sym, ap, ◌∙◌, subst, leb-true}
 use Rattle.carv_area.specs.Table.{Row}
-use Rattle.carv_area.specs.Laws.Table.{alter_known, length_alter}
+use Rattle.carv_area.specs.Laws.Table.{alter_known}
 use Rattle.carv_area.specs.Lookup.{Here}
 use Rattle.carv_budget.specs.declared.Account.{Account}
 use Rattle.carv_budget.specs.Account as account
 use Rattle.carv_budget.proofs.Laws.Account.{charge_sound}
 use Rattle.carv_budget.proofs.Laws.Refines.{renew_charged}
+use Rattle.carv_objects_spec.specs.declared.kind.Kind.{Kind}
+use Rattle.carv_objects_spec.specs.declared.kind.Kind.TheVariants.{Budget}
 use Rattle.carv_objects_spec.specs.declared.Entry.{Entry}
-use Rattle.carv_objects.specs.declared.Answer.{Answer}
-use Rattle.carv_objects.specs.declared.Answer.TheVariants.{Id, Refused}
-use Rattle.carv_objects.specs.declared.accounts.Booked.{Booked}
-use Rattle.carv_objects.specs.declared.accounts.Booked.TheVariants as booked
-use Rattle.carv_objects.specs.declared.accounts.Carved.{Carved}
-use Rattle.carv_objects.specs.declared.accounts.Carved.TheVariants as carved
+use Rattle.carv_objects.specs.declared.refusal.Refusal.{Refusal}
+use Rattle.carv_objects.specs.declared.refusal.Refusal.TheVariants.{Limit}
+use Rattle.carv_objects.specs.Refusal.{refusal_number}
 use Rattle.carv_objects.specs.Laws.Booked.{Books, Carves}
-use Rattle.carv_objects_spec.specs.Reply.{refuse}
+use Rattle.carv_objects_spec.specs.Reply.{Value, refuse}
 use Rattle.carv_objects.specs.Answer.{number, value}
-use Rattle.carv_objects_spec.specs.Registry.{Registry, RegistryReply, account_of, on_account, budget, add, plain, carved as carved_entry, has_place, has_next}
+use Rattle.carv_objects_spec.specs.Registry.{Registry, RegistryReply, account_of, on_account, budget, add, plain, carved as carved_entry}
 use Rattle.carv_objects_spec.proofs.Laws.SoundFacts.{Sound}
 use Rattle.carv_objects_spec.proofs.Laws.SoundLaws.{account_sound}
 use Rattle.carv_objects.specs.Area.{decode, sound_area, Is, Serves}
@@ -43,9 +42,9 @@ module _ (a : List ℕ) (s : sound_area a ≡ true) where
 pub is_area : (a : List ℕ) (s : Registry) → Leaves a s → Sound s → Is a s
 is_area a s l h = record { sound = formed_sound a l.formed.size (subst Sound (sym l.is) h) l.formed.rows; same = l.is }
 
-module _ (call : Registry → RegistryReply) (a : List ℕ) (s : sound_area a ≡ true) where
+module _ {T : Type 0} {tells : T → Option Value} (call : Registry → RegistryReply) (a : List ℕ) (s : sound_area a ≡ true) where
   -- refused, and left as it came
-  pub refused : (n : ℕ) → call (decode a) ≡ refuse n (decode a) → Serves call a (Refused n) a
+  pub refused : (n : Refusal) → call (decode a) ≡ refuse (refusal_number n) (decode a) → Serves call tells a (Err n) a
   refused n e = record {
     number = sym (ap (λ (z : RegistryReply). z.number) e);
     value = sym (ap (λ (z : RegistryReply). z.value) e);
@@ -53,7 +52,8 @@ module _ (call : Registry → RegistryReply) (a : List ℕ) (s : sound_area a �
   }
 
   -- answered, with the reply z
-  pub answered : (z : RegistryReply) → call (decode a) ≡ z → (r : Answer) → number r ≡ z.number → value r ≡ z.value → (a' : List ℕ) → Leaves a' z.after → Sound z.after → Serves call a r a'
+  pub answered : (z : RegistryReply) → call (decode a) ≡ z → (r : Result T Refusal) → number r ≡ z.number → value tells r ≡ z.value → (a' : List ℕ) → Leaves a' z.after → Sound z.after
+      → Serves call tells a r a'
   answered z e r n v a' l h = record {
     number = n ∙ sym (ap (λ (w : RegistryReply). w.number) e);
     value = v ∙ sym (ap (λ (w : RegistryReply). w.value) e);
@@ -70,22 +70,11 @@ module _ (r : Registry) (x i : ℕ) (h : Here no_row r.rows x i) where
   pub account_here : account_of r x ≡ (get_or r.rows i no_row).it.account
   account_here = ap (λ (e : Entry). e.account) (here_entry r x i h)
 
--- `store`: the account is written, and then the entry is added
-module _ (r r₁ : Registry) (payer : ℕ) (y : Account) (l : r₁ ≡ budget payer (λ _. y) r) where
-  pub store_room : (has_place r && has_next r) ≡ true → (has_place r₁ && has_next r₁) ≡ true
-  store_room h = rw (l, length_alter) h
-
-  pub store_next : (x : ℕ) → x ≡ r₁.next → Id x ≡ Id r.next
-  store_next x e = ap Id (e ∙ ap (λ (z : Registry). z.next) l)
-
-  pub store_same : (e : Entry) → add e r₁ ≡ add e (budget payer (λ _. y) r)
-  store_same e = ap (add e) l
-
 -- what is booked, and what is refused
-pub booked_yes : (b : Bool) (x : Account) (p : Booked) → Books b x p → (y : Account) → p ≡ booked.Yes y → (b ≡ true) × (y ≡ x)
+pub booked_yes : (b : Bool) (x : Account) (p : Option Account) → Books b x p → (y : Account) → p ≡ Some y → (b ≡ true) × (y ≡ x)
 booked_yes b x p h y e = subst (Books b x) e h
 
-pub booked_no : (b : Bool) (x : Account) (p : Booked) → Books b x p → p ≡ booked.No → b ≡ false
+pub booked_no : (b : Bool) (x : Account) (p : Option Account) → Books b x p → p ≡ None → b ≡ false
 booked_no b x p h e = subst (Books b x) e h
 
 -- the test of free memory, of the account that stands at place i
@@ -94,7 +83,7 @@ module _ (r : Registry) (x i : ℕ) (h : Here no_row r.rows x i) (y : Account) (
   free_here p = rw (account_here r x i h, ← e) p
 
 -- `insert` and `create` leave the payer charged and the new object
-module _ (r : Registry) (payer i bytes kind : ℕ) (h : Here no_row r.rows payer i) (y z : Account) (ey : y ≡ (get_or r.rows i no_row).it.account) (ez : z ≡ account.charge y bytes) where
+module _ (r : Registry) (payer i bytes : ℕ) (kind : Kind) (h : Here no_row r.rows payer i) (y z : Account) (ey : y ≡ (get_or r.rows i no_row).it.account) (ez : z ≡ account.charge y bytes) where
   pub stored_plain : add (plain kind payer bytes) (budget payer (λ _. z) r) ≡ add (plain kind payer bytes) (budget payer (λ a. account.charge a bytes) r)
   stored_plain = ap (add (plain kind payer bytes)) (budget_by r payer i h (λ a. account.charge a bytes) z (ez ∙ ap (λ (a : Account). account.charge a bytes) ey))
 
@@ -103,10 +92,11 @@ pub kept_at : (x z : RegistryReply) → Sound x.after → x ≡ z → Sound z.af
 kept_at x z h e = subst (λ (w : RegistryReply). Sound w.after) e h
 
 -- a carve-out, made or refused
-pub carved_yes : (a : Account) (cpu memory time : ℕ) (p : Carved) → Carves a cpu memory time p → (y z : Account) → p ≡ carved.Yes y z → Carves a cpu memory time (carved.Yes y z)
-carved_yes a cpu memory time p h y z e = subst (Carves a cpu memory time) e h
+pub carved_yes : (a : Account) (cpu memory time : ℕ) (p : Option (Account × Account)) → Carves a cpu memory time p → (q : Account × Account) → p ≡ Some q
+    → Carves a cpu memory time (Some q)
+carved_yes a cpu memory time p h q e = subst (Carves a cpu memory time) e h
 
-pub carved_no : (a : Account) (cpu memory time : ℕ) (p : Carved) → Carves a cpu memory time p → p ≡ carved.No → Carves a cpu memory time carved.No
+pub carved_no : (a : Account) (cpu memory time : ℕ) (p : Option (Account × Account)) → Carves a cpu memory time p → p ≡ None → Carves a cpu memory time None
 carved_no a cpu memory time p h e = subst (Carves a cpu memory time) e h
 
 -- a renewal leaves the memory, and a charge of memory the CPU time
@@ -136,7 +126,7 @@ module _ (r : Registry) (x i : ℕ) (h : Here no_row r.rows x i) (y p : Account)
   carve_memory q = rw free_same at q
 
   pub stored_budget : (z w : Account) → z ≡ account.reserve (account.renew p time) cpu memory → w ≡ account.fresh cpu memory (account.renew p time).period_start
-      → add (record { kind = 6; payer = x; charge = 128; account = w }) (budget x (λ _. z) r)
+      → add (record { kind = Budget; payer = x; charge = 128; account = w }) (budget x (λ _. z) r)
       ≡ add (carved_entry x cpu memory (account.renew (account_of r x) time)) (budget x (λ a. account.reserve (account.charge (account.renew a time) 128) cpu memory) r)
   stored_budget z w ez ew =
       let q : account.renew p time ≡ account.charge (account.renew y time) 128 = ap (λ (a : Account). account.renew a time) ep ∙ renew_charged y 128 time in
@@ -144,7 +134,7 @@ module _ (r : Registry) (x i : ℕ) (h : Here no_row r.rows x i) (y p : Account)
       let s : budget x (λ _. z) r ≡ budget x f r = budget_by r x i h f z (ez ∙ ap (λ (a : Account). account.reserve a cpu memory) q ∙ ap f ey) in
       let c : w ≡ account.fresh cpu memory (account.renew (account_of r x) time).period_start =
       ew ∙ ap (λ (a : Account). account.fresh cpu memory a.period_start) q ∙ ap (λ (a : Account). account.fresh cpu memory (account.renew a time).period_start) (sym here_is) in
-      ap (λ (a : Account). add (record { kind = 6; payer = x; charge = 128; account = a }) (budget x (λ _. z) r)) c
+      ap (λ (a : Account). add (record { kind = Budget; payer = x; charge = 128; account = a }) (budget x (λ _. z) r)) c
       ∙ ap (add (carved_entry x cpu memory (account.renew (account_of r x) time))) s
 
 -- the same of a CPU charge
@@ -162,15 +152,16 @@ module _ (r : Registry) (x i : ℕ) (h : Here no_row r.rows x i) (y : Account) (
   due_here = ap (λ (a : Account). account.due a time) (ey ∙ sym (account_here r x i h))
 
 -- refused, with a renewal that stays
-pub refused_after : (call : Registry → RegistryReply) (a : List ℕ) → sound_area a ≡ true → (s : Registry) → call (decode a) ≡ refuse 12 s → (r : Answer) → r ≡ Refused 12 → (a' : List ℕ) → Leaves a' s → Sound s → Serves call a r a'
-refused_after call a t s e r er a' l h = answered call a t (refuse 12 s) e r (ap number er) (ap value er) a' l h
+pub refused_after : {T : Type 0} {tells : T → Option Value} (call : Registry → RegistryReply) (a : List ℕ) → sound_area a ≡ true → (s : Registry) → call (decode a) ≡ refuse 12 s → (a' : List ℕ) → Leaves a' s → Sound s
+    → Serves call tells a (Err Limit) a'
+refused_after call a t s e a' l h = answered call a t (refuse 12 s) e (Err Limit) refl refl a' l h
 
 -- an amount n that was computed as m
 pub free_of : (r : Registry) (x i : ℕ) (h : Here no_row r.rows x i) (y : Account) → y ≡ (get_or r.rows i no_row).it.account → (m n : ℕ) → m ≡ n → (b : Bool) → leb m (account.free y) ≡ b
     → leb n (account.free (account_of r x)) ≡ b
 free_of r x i h y e m n q b p = free_here r x i h y e n b (rw q at p)
 
-pub stored_of : (r : Registry) (payer i m n kind : ℕ) (h : Here no_row r.rows payer i) (y z : Account) → y ≡ (get_or r.rows i no_row).it.account → z ≡ account.charge y m → m ≡ n
+pub stored_of : (r : Registry) (payer i m n : ℕ) (kind : Kind) (h : Here no_row r.rows payer i) (y z : Account) → y ≡ (get_or r.rows i no_row).it.account → z ≡ account.charge y m → m ≡ n
     → add (plain kind payer m) (budget payer (λ _. z) r) ≡ add (plain kind payer n) (budget payer (λ a. account.charge a n) r)
 stored_of r payer i m n kind h y z ey ez q = rw (← q) (stored_plain r payer i m kind h y z ey ez)
 
@@ -178,7 +169,8 @@ pub charged_sound : (y z : Account) (n : ℕ) → z ≡ account.charge y n → a
 charged_sound y z n e s p = rw e (charge_sound y n s (leb-true n (account.free y) p))
 
 -- a reading answers with the area as it came
-pub read_serves : (call : Registry → RegistryReply) (a : List ℕ) → sound_area a ≡ true → (z : RegistryReply) → call (decode a) ≡ z → z.after ≡ decode a → (r : Answer) → number r ≡ z.number → value r ≡ z.value → Serves call a r a
+pub read_serves : {T : Type 0} {tells : T → Option Value} (call : Registry → RegistryReply) (a : List ℕ) → sound_area a ≡ true → (z : RegistryReply) → call (decode a) ≡ z → z.after ≡ decode a → (r : Result T Refusal)
+    → number r ≡ z.number → value tells r ≡ z.value → Serves call tells a r a
 read_serves call a s z e q r n v = record {
   number = n ∙ sym (ap (λ (w : RegistryReply). w.number) e);
   value = v ∙ sym (ap (λ (w : RegistryReply). w.value) e);

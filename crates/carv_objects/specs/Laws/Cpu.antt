@@ -1,45 +1,20 @@
 -- What `cpu.rt` leaves and answers: a budget that is renewed, or charged what is left. Assumes nothing.
-use Rattle.std.specs.Prelude.{◌≡◌, Bool, true, false, List, ℕ, min, ◌≤◌, eqb, ltb, get_or}
-use Rattle.std.proofs.Common.{sym, ap, ◌∙◌, arith, lt-ltb, le-ltb, le-leb}
+use Rattle.std.specs.Prelude.{◌≡◌, Bool, true, List, ℕ, min, ltb, get_or}
+use Rattle.std.proofs.Common.{sym, ap, ◌∙◌}
 use Rattle.carv_area.specs.Laws.Table.{at_alter}
 use Rattle.carv_area.specs.Lookup.{Here}
 use Rattle.carv_budget.specs.declared.Account.{Account}
-use Rattle.carv_budget.specs.declared.Outcome.{Outcome}
 use Rattle.carv_budget.specs.Account as account
-use Rattle.carv_budget.proofs.Laws.Account.{not_first, renew_twice, renew_sound}
 use Rattle.carv_objects_spec.specs.declared.Entry.{Entry}
+use Rattle.carv_objects_spec.specs.Kinds.{is_budget_kind}
 use Rattle.carv_objects_spec.specs.Registry.{Registry, RegistryReply, or_missing, entry, is_budget, account_of, on_account, budget, refill, has_cpu, charge_most}
 use Rattle.carv_objects_spec.proofs.Laws.Kept.{refill_kept, charge_most_kept}
 use Rattle.carv_objects.specs.Area.{decode, sound_area, Is, Renews}
 use Rattle.carv_objects.specs.Laws.Rows.{no_row}
 use Rattle.carv_objects.specs.Laws.Formed.{Leaves, leaves_as}
 use Rattle.carv_objects.specs.Laws.AreaSteps.{here_entry}
-use Rattle.carv_objects.specs.Laws.Booked.{spend_is}
 use Rattle.carv_objects.specs.Laws.Calls.{area_sound, is_area, budget_by}
-use Rattle.carv_objects_spec.proofs.Laws.Questions.{refill_missing, refill_done}
-
--- `spend_most`: the renewed account y is charged n, the lesser of ns and what is left
-pub spends_most : (a y : Account) (ns time n : ℕ) → account.sound a ≡ true → y ≡ account.renew a time → n ≡ min ns y.cpu_left → (o : Outcome) → o ≡ account.charge_cpu y n time
-    → o.account ≡ account.spend (account.renew a time) (min ns (account.renew a time).cpu_left)
-spends_most a y ns time n h e en o eo =
-    let s : account.sound (account.renew a time) ≡ true = renew_sound a time h in
-    let z : o ≡ account.charge_cpu (account.renew a time) (min ns (account.renew a time).cpu_left) time = eo ∙ rw (en, e) in
-    let le : min ns (account.renew a time).cpu_left ≤ (account.renew a time).cpu_left = omega arith in
-    ap (λ (v : Outcome). v.account) (spend_is (account.renew a time) s (min ns (account.renew a time).cpu_left) time o z)
-    ∙ rw (renew_twice a time, le-leb (min ns (account.renew a time).cpu_left) (account.renew a time).cpu_left le)
-
--- no budget: nothing is renewed or charged
-module _ (a : List ℕ) (s : sound_area a ≡ true) (x : ℕ) (g : is_budget (decode a) x ≡ false) where
-  pub not_renewed : (time : ℕ) → Renews x time a false a
-  not_renewed time =
-      let e : (refill x time (decode a)).after ≡ decode a = ap (λ (z : RegistryReply). z.after) (refill_missing x time (decode a) g) in
-      record {
-        answer = rw e (sym (not_first (is_budget (decode a) x) (ltb 0 (account_of (decode a) x).cpu_left) g));
-        area = record { sound = s; same = sym e };
-      }
-
-  pub not_charged : (ns time : ℕ) → Is a (charge_most x ns time (decode a))
-  not_charged ns time = record { sound = s; same = rw g }
+use Rattle.carv_objects_spec.proofs.Laws.Questions.{refill_done}
 
 -- the budget x stands at place i, with the account y
 module _ (r : Registry) (x i : ℕ) (h : Here no_row r.rows x i) (b : is_budget r x ≡ true) (y : Account) (ey : y ≡ (get_or r.rows i no_row).it.account) (time : ℕ) where
@@ -47,7 +22,7 @@ module _ (r : Registry) (x i : ℕ) (h : Here no_row r.rows x i) (b : is_budget 
   entry_renewed = ap or_missing (at_alter r.rows x (on_account (λ a. account.renew a time)) (get_or r.rows i no_row).it h.is)
 
   kind_renewed : is_budget (budget x (λ a. account.renew a time) r) x ≡ true
-  kind_renewed = ap (λ (e : Entry). eqb e.kind 6) entry_renewed ∙ ap (λ (e : Entry). eqb e.kind 6) (sym (here_entry r x i h)) ∙ b
+  kind_renewed = ap (λ (e : Entry). is_budget_kind e.kind) entry_renewed ∙ ap (λ (e : Entry). is_budget_kind e.kind) (sym (here_entry r x i h)) ∙ b
 
   left_renewed : (account_of (budget x (λ a. account.renew a time) r) x).cpu_left ≡ (account.renew y time).cpu_left
   left_renewed = ap (λ (e : Entry). e.account.cpu_left) entry_renewed ∙ ap (λ (z : Account). (account.renew z time).cpu_left) (sym ey)
@@ -58,11 +33,8 @@ module _ (r : Registry) (x i : ℕ) (h : Here no_row r.rows x i) (b : is_budget 
   cpu_tested : (z : Account) → z ≡ account.renew y time → has_cpu (refill x time r).after x ≡ ltb 0 z.cpu_left
   cpu_tested z ez = rw (refilled, kind_renewed, left_renewed, ez)
 
-  pub cpu_none : (z : Account) → z ≡ account.renew y time → z.cpu_left ≡ 0 → false ≡ has_cpu (refill x time r).after x
-  cpu_none z ez q = sym (cpu_tested z ez ∙ le-ltb 0 z.cpu_left (omega arith))
-
-  pub cpu_some : (z : Account) → z ≡ account.renew y time → (z.cpu_left ≡ 0 → ⊥) → true ≡ has_cpu (refill x time r).after x
-  cpu_some z ez q = sym (cpu_tested z ez ∙ lt-ltb 0 z.cpu_left (omega arith))
+  pub cpu_left : (z : Account) → z ≡ account.renew y time → ltb 0 z.cpu_left ≡ has_cpu (refill x time r).after x
+  cpu_left z ez = sym (cpu_tested z ez)
 
   pub renewed_is : (z : Account) → z ≡ account.renew y time → budget x (λ _. z) r ≡ (refill x time r).after
   renewed_is z ez = budget_by r x i h (λ a. account.renew a time) z (ez ∙ ap (λ (a : Account). account.renew a time) ey) ∙ sym refilled

@@ -1,6 +1,6 @@
 -- What an opening leaves: a cleared table, its first row, and the next id. Assumes nothing.
-use Rattle.std.specs.Prelude.{◌≡◌, refl, true, false, List, [], ◌∷◌, ◌++◌, ℕ, suc, ◌+◌, ◌*◌, ◌-◌, ◌/◌, ◌≤◌, leb, length, take, drop}
-use Rattle.std.proofs.Common.{sym, ap, ◌∙◌, subst, true≢false, append-nil, arith, drop_of_length-le, take_all, eqb-true, leb-true}
+use Rattle.std.specs.Prelude.{◌≡◌, refl, true, List, [], ◌∷◌, ◌++◌, ℕ, suc, ◌+◌, ◌*◌, ◌-◌, ◌/◌, ◌≤◌, leb, length, take, drop, Ok}
+use Rattle.std.proofs.Common.{sym, ap, ◌∙◌, subst, true≢false, append-nil, arith, drop_of_length-le, take_all, leb-true}
 use Rattle.std.proofs.lemmas.List.{length-replicate}
 use Rattle.std.proofs.lemmas.Bool.{eqb-false}
 use Rattle.carv_area.specs.Table.{Row}
@@ -15,18 +15,18 @@ use Rattle.carv_area.specs.Stored.{Stored}
 use Rattle.carv_area.specs.Laws.Stored.{stored}
 use Rattle.carv_budget.specs.declared.Account.{Account}
 use Rattle.carv_budget.specs.Account.{period, fresh}
+use Rattle.carv_objects_spec.specs.declared.kind.Kind.TheVariants.{Budget}
 use Rattle.carv_objects_spec.specs.declared.Entry.{Entry}
-use Rattle.carv_objects.specs.declared.Answer.TheVariants.{Done, Refused}
 use Rattle.carv_objects_spec.specs.Registry.{Registry, opening}
 use Rattle.carv_objects_spec.proofs.Laws.Kept.{opening_sound}
-use Rattle.carv_objects.specs.Area.{table, fields, rows_in, decode, Opened}
+use Rattle.carv_objects.specs.Area.{table, fields, rows_in, Opened}
 use Rattle.carv_objects.specs.Laws.AreaLaws.{formed_is}
 use Rattle.carv_objects.specs.Laws.Rows.{row, wide, rows_in_are}
 use Rattle.carv_objects.specs.Laws.Formed.{Formed}
 
 -- the root budget, with the account y
 abbrev pub root : Account → Entry
-root y = record { kind = 6; payer = 1; charge = 0; account = y }
+root y = record { kind = Budget; payer = 1; charge = 0; account = y }
 
 -- the registry that has only it
 abbrev pub rooted : Account → Registry
@@ -68,21 +68,10 @@ pub table_put : (a p : List ℕ) → length a ≡ 45_072 → length p ≡ 45_064
 unfolding table
 table_put a p size z rows h = let fits : 8 + 45_064 ≤ length a = omega arith in rw (part_same 8 45_064 a p fits z) h
 
--- the table and then the next id are written
-pub start_formed : (a₁ a₂ : List ℕ) (y : Account) → length a₂ ≡ 45_072 → Stored fields 11 (table a₁) (row 1 (root y) ∷ []) → ((decode a₂).next ≡ 2) × (table a₂ ≡ table a₁)
-    → Formed a₂ (rooted y)
-start_formed a₁ a₂ y z h q = record { size = z; next = q.0; rows = rw q.1 h; rising = (omega arith, omega arith) }
-
 -- What an opening answers.
 module _ (cpu memory : ℕ) (a : List ℕ) where
-  pub open_size : (length a ≡ 45_072 → ⊥) → Opened cpu memory a (Refused 1) a
-  open_size n = record { size = λ q. (refl, refl); share = λ q. absurd (n (eqb-true (length a) 45_072 q)); opened = λ q. absurd (n (eqb-true (length a) 45_072 q)) }
-
   module _ (z : length a ≡ 45_072) where
-    pub open_share : leb cpu period ≡ false → Opened cpu memory a (Refused 2) a
-    open_share n = record { size = λ q. absurd (eqb-false (length a) 45_072 q z); share = λ q s. (refl, refl); opened = λ q s. absurd (true≢false (sym s ∙ n)) }
-
-    pub open_done : (y : Account) → (leb cpu period ≡ true) × (y ≡ fresh cpu memory 0) → (a' : List ℕ) → Formed a' (rooted y) → Opened cpu memory a Done a'
+    pub open_done : (y : Account) → (leb cpu period ≡ true) × (y ≡ fresh cpu memory 0) → (a' : List ℕ) → Formed a' (rooted y) → Opened cpu memory a (Ok tt) a'
     open_done y h a' k =
         let f : Formed a' (opening cpu memory) = subst (λ (x : Account). Formed a' (rooted x)) h.1 k in
         record {

@@ -1,6 +1,6 @@
 -- The rows of the registry's table: what its words say of them, and what a change of one leaves. Assumes nothing.
-use Rattle.std.specs.Prelude.{ℕ, suc, ◌+◌, ◌*◌, ◌≤◌, ◌<◌, ◌≡◌, refl, List, [], ◌∷◌, ◌++◌, length, get_or, set}
-use Rattle.std.proofs.Common.{arith}
+use Rattle.std.specs.Prelude.{ℕ, suc, ◌+◌, ◌*◌, ◌≤◌, ◌<◌, ◌≡◌, refl, List, [], ◌∷◌, ◌++◌, length, get_or, set, Option}
+use Rattle.std.proofs.Common.{ap, ◌∙◌, arith}
 use Rattle.std.proofs.Math.Numerals.{towards_numerals}
 use Rattle.std.proofs.lemmas.List.Edits.{sets}
 use Rattle.carv_area.specs.Table.{Row, Rising}
@@ -12,10 +12,11 @@ use Rattle.carv_area.specs.Stored.{Stored, Keyed}
 use Rattle.carv_area.specs.Laws.Stored.{rows_are, stored_set, stored_append}
 use Rattle.carv_area.specs.Laws.Lookup as lookup
 use Rattle.carv_area.specs.Lookup.{Located}
-use Rattle.carv_area.specs.declared.Found.{Found}
 use Rattle.carv_budget.specs.declared.Account.{Account}
 use Rattle.carv_objects_spec.specs.declared.Entry.{Entry}
+use Rattle.carv_objects_spec.specs.Kinds.{code, kind_of}
 use Rattle.carv_objects_spec.specs.Registry.{missing}
+use Rattle.carv_objects_spec.proofs.Laws.Kinds.{kind_of_code}
 use Rattle.carv_objects.specs.Area.{fields, row_at, rows_in}
 
 pub wide : (r : Row Entry) → length (fields r) ≡ 11
@@ -38,7 +39,7 @@ unfoldable pub set_row : List ℕ → ℕ → Row Entry → List ℕ
 set_row l i r = sets l (i * 11 + 1) (fields r)
 
 -- `write_entry`
-pub row_set : (l l₁ l₂ l₃ l₄ l₅ : List ℕ) (i id : ℕ) (e : Entry) → l₁ ≡ set l (i * 11 + 1) id → l₂ ≡ set l₁ (i * 11 + 2) e.kind → l₃ ≡ set l₂ (i * 11 + 3) e.payer
+pub row_set : (l l₁ l₂ l₃ l₄ l₅ : List ℕ) (i id : ℕ) (e : Entry) → l₁ ≡ set l (i * 11 + 1) id → l₂ ≡ set l₁ (i * 11 + 2) (code e.kind) → l₃ ≡ set l₂ (i * 11 + 3) e.payer
     → l₄ ≡ set l₃ (i * 11 + 4) e.charge → l₅ ≡ set_account l₄ i e.account → l₅ ≡ set_row l i (row id e)
 unfolding set_account set_row
 row_set l l₁ l₂ l₃ l₄ l₅ i id e e₁ e₂ e₃ e₄ e₅ = rw (e₅, e₄, e₃, e₂, e₁) (simp towards_numerals)
@@ -50,7 +51,7 @@ module _ (l : List ℕ) (rows : List (Row Entry)) (h : Holds fields 11 l rows) w
       λ t. record {
         id = w 0 (omega arith) t;
         it = record {
-          kind = w 1 (omega arith) t;
+          kind = (ap kind_of (w 1 (omega arith)) ∙ kind_of_code (get_or rows i no_row).it.kind) t;
           payer = w 2 (omega arith) t;
           charge = w 3 (omega arith) t;
           account = record {
@@ -73,7 +74,7 @@ module _ (t : List ℕ) (rows : List (Row Entry)) (h : Stored fields 11 t rows) 
   pub rows_keyed : (n : ℕ) → Rising 1 n rows → Keyed 11 t
   rows_keyed n up = lookup.rows_keyed fields 11 wide (λ r. refl) no_row (omega arith) t rows h 1 n up
 
-  pub rows_located : (x : ℕ) (p : Found) → p ≡ find_in (keys 11 (words t)) x → Located no_row rows x p
+  pub rows_located : (x : ℕ) (p : Option ℕ) → p ≡ find_in (keys 11 (words t)) x → Located no_row rows x p
   rows_located x p e = lookup.rows_located fields 11 wide (λ r. refl) no_row (omega arith) t rows h x p e
 
 -- place i of a table with these rows lies in its bytes

@@ -1,27 +1,29 @@
 -- What question 1's walk finds by place is what the test of specs/Area.antt asks by id. Assumes nothing.
 use Rattle.std.proofs.Math.Path.{◌≡◌}
-use Rattle.std.specs.Prelude.{refl, ◌≢◌, Bool, true, false, ◌&&◌, List, eqb, length, get_or, drop}
+use Rattle.std.specs.Prelude.{refl, ◌≢◌, Bool, true, false, List, eqb, length, get_or, Option, Some, None}
 use Rattle.std.proofs.Common.{sym, ◌∙◌, ap, subst, ⊎_elim, eq-or-lt_of_le, arith}
-use Rattle.std.proofs.Math.Option.{Option, none, some}
-use Prim.Native.Nat.{ℕ, zero, suc, ◌+◌, ◌-◌, ◌*◌, ◌≤◌, ◌<◌}
-use borrow.Author.Tests.{eqb-true, eqb-false, eq-eqb, ne_eqb}
+use Prim.Native.Nat.{ℕ, zero, suc, ◌-◌, ◌≤◌, ◌<◌}
+use borrow.Author.Tests.{eqb-true, eq-eqb, ne_eqb}
 use Rattle.carv_area.specs.Laws.Table as Table
 use Rattle.carv_area.specs.Table.{Row, at, Rising}
 use Rattle.carv_area.specs.Laws.Table.{test}
 use Rattle.carv_area.specs.Lists.{tab}
 use Rattle.carv_area.specs.Laws.Lists.{lt_or_ge, length_tab}
 use Rattle.carv_area.specs.Words.{words}
-use Rattle.carv_area.specs.Zero.{all_zero}
 use Rattle.carv_budget.proofs.Laws.Account.{first, second}
 use Rattle.carv_budget.specs.declared.Account.{Account}
 use Rattle.carv_budget.specs.Account.{blank}
 use Rattle.carv_budget.proofs.Laws.Account as account_laws
+use Rattle.carv_objects_spec.specs.declared.kind.Kind.TheVariants as kinds
 use Rattle.carv_objects_spec.specs.declared.Entry.{Entry}
+use Rattle.carv_objects_spec.specs.Kinds.{is_budget_kind}
 use Rattle.carv_objects_spec.specs.Registry.{Registry, or_missing}
 use Rattle.carv_objects_spec.specs.Sound.{kind_at, sound}
 use Rattle.carv_objects_spec.proofs.Laws.SoundFacts.{Sound, SoundEntry}
 use Rattle.carv_objects_spec.proofs.Laws.SoundLaws.{sound_told, sound_shown, account_sound}
-use Rattle.carv_objects.specs.Area.{table, row_at, rows_in, decode, sound_area}
+use Rattle.carv_objects.specs.Area.{table, kind_word, row_at, rows_in, decode, kinds_listed, sound_area}
+use Rattle.carv_objects.specs.Laws.AreaLaws.{Listed, listed_told, listed_shown}
+use Rattle.carv_objects_spec.proofs.Laws.Kinds.{kind_apart}
 use Rattle.carv_objects.specs.Laws.SoundWalk.{Tells, id_at, entry_at, Plain, Owned, Rise, Whole, SoundTable}
 use Rattle.carv_objects.specs.Laws.SoundTurn.{front_rise, in_place}
 
@@ -60,7 +62,7 @@ module _ {A : Type 0} where
   )
 
   -- what stands under the id at place k
-  at_tab : (n : ℕ) (f : ℕ → Row A) → ((j k : ℕ) → j < k → k < n → (f j).id < (f k).id) → (k : ℕ) → k < n → at (tab n f) (f k).id ≡ some (f k).it
+  at_tab : (n : ℕ) (f : ℕ → Row A) → ((j k : ℕ) → j < k → k < n → (f j).id < (f k).id) → (k : ℕ) → k < n → at (tab n f) (f k).id ≡ Some (f k).it
   unfolding tab
   at_tab zero f r k h = absurd (omega arith)
   at_tab (suc n) f r zero h = rw (eq-eqb (f zero).id (f zero).id refl)
@@ -75,11 +77,11 @@ module _ {A : Type 0} where
     id : (f place).id ≡ i
     it : (f place).it ≡ a
 
-  at_out : (n : ℕ) (f : ℕ → Row A) (i : ℕ) (a : A) → at (tab n f) i ≡ some a → Stands n f i a
+  at_out : (n : ℕ) (f : ℕ → Row A) (i : ℕ) (a : A) → at (tab n f) i ≡ Some a → Stands n f i a
   unfolding tab
   at_out zero f i a q = let z : ◌≡◌ {A = ℕ} 0 1 = cc in absurd (omega arith)
   at_out (suc n) f i a q = test (eqb (f zero).id i)
-      (λ e. let q' : some (f zero).it ≡ some a = rw e at q in
+      (λ e. let q' : Some (f zero).it ≡ Some a = rw e at q in
       record { place = zero; inside = omega arith; id = eqb-true (f zero).id i e; it = cc })
       (λ e. let s = at_out n (λ j. f (suc j)) i a (rw e at q) in
       record { place = suc s.place; inside = omega (arith, s.inside); id = s.id; it = s.it })
@@ -89,16 +91,16 @@ record Budget (n : ℕ) (f : ℕ → Row Entry) (p : ℕ) : Type 0 where
   place : ℕ
   inside : place < n
   id : (f place).id ≡ p
-  kind : (f place).it.kind ≡ 6
+  kind : (f place).it.kind ≡ kinds.Budget
 
-budget_out : (n : ℕ) (f : ℕ → Row Entry) (p : ℕ) → kind_at (tab n f) p ≡ 6 → Budget n f p
+budget_out : (n : ℕ) (f : ℕ → Row Entry) (p : ℕ) → kind_at (tab n f) p ≡ kinds.Budget → Budget n f p
 budget_out n f p h = go (at (tab n f) p) refl
   where
     go : (o : Option Entry) → at (tab n f) p ≡ o → Budget n f p
-    go none q = let z : ◌≡◌ {A = ℕ} 0 6 = sym (ap (λ (x : Option Entry). (or_missing x).kind) q) ∙ h in absurd (omega arith)
-    go (some e) q =
+    go None q = absurd (kind_apart kinds.IrqControl refl (sym (ap (λ (x : Option Entry). (or_missing x).kind) q) ∙ h))
+    go (Some e) q =
         let s = at_out n f p e q in
-        let z : e.kind ≡ 6 = sym (ap (λ (x : Option Entry). (or_missing x).kind) q) ∙ h in
+        let z : e.kind ≡ kinds.Budget = sym (ap (λ (x : Option Entry). (or_missing x).kind) q) ∙ h in
         record { place = s.place; inside = s.inside; id = s.id; kind = ap (λ (x : Entry). x.kind) s.it ∙ z }
 
 -- the registry that the words w of a table and a next id say
@@ -107,7 +109,7 @@ registry_in w next = record { next = next; rows = tab (get_or w 0 0) (row_at w) 
 
 -- ---- sound, then whole
 
-module _ (w : List ℕ) (next : ℕ) (S : Sound (registry_in w next)) where
+module _ (w : List ℕ) (next : ℕ) (S : Sound (registry_in w next)) (named : Listed w (get_or w 0 0)) where
   rise : Rise w (get_or w 0 0)
   rise = rising_rise (get_or w 0 0) (row_at w) 1 next S.rising
 
@@ -126,17 +128,15 @@ module _ (w : List ℕ) (next : ℕ) (S : Sound (registry_in w next)) where
   first_id : id_at w 0 ≡ 1
   first_id = omega (arith, root.inside, (within 0 (omega (arith, root.inside))).low, upto 0 root.place (omega arith) root.inside, root.id)
 
-  plain : (k : ℕ) → k < get_or w 0 0 → Plain (entry_at w k)
+  plain : (k : ℕ) → k < get_or w 0 0 → Plain (kind_word w k) (entry_at w k)
   plain k l =
       let F = fits k l in
-      let kind = (entry_at w k).kind in
-      let b : ((entry_at w k).kind ≡ 6 → ⊥) → (entry_at w k).account ≡ blank = λ ne. F.plain (ne_eqb kind 6 ne) in
       record {
-        code = F.code;
+        named = named k l;
         sound = account_sound F;
-        no_cpu = λ ne. ap (λ (a : Account). a.cpu_allowance) (b ne);
-        no_memory = λ ne. ap (λ (a : Account). a.memory_limit) (b ne);
-        no_start = λ ne. ap (λ (a : Account). a.period_start) (b ne);
+        no_cpu = λ ne. ap (λ (a : Account). a.cpu_allowance) (F.plain ne);
+        no_memory = λ ne. ap (λ (a : Account). a.memory_limit) (F.plain ne);
+        no_start = λ ne. ap (λ (a : Account). a.period_start) (F.plain ne);
       }
 
   owned : (k : ℕ) → k < get_or w 0 0 → Owned w next k
@@ -178,21 +178,20 @@ module _ (w : List ℕ) (next : ℕ) (W : Whole w next) (few : get_or w 0 0 ≤ 
   order : Rise w (get_or w 0 0)
   order = front_rise W.front
 
-  here : (k : ℕ) → k < get_or w 0 0 → at (tab (get_or w 0 0) (row_at w)) (id_at w k) ≡ some (entry_at w k)
+  here : (k : ℕ) → k < get_or w 0 0 → at (tab (get_or w 0 0) (row_at w)) (id_at w k) ≡ Some (entry_at w k)
   here = at_tab (get_or w 0 0) (row_at w) order
 
   one : id_at w 0 ≡ 1
   one = ((W.front.paid 0 W.some).is.first refl).0
 
-  clean : (k : ℕ) → k < get_or w 0 0 → eqb (entry_at w k).kind 6 ≡ false → (entry_at w k).account ≡ blank
+  clean : (k : ℕ) → k < get_or w 0 0 → is_budget_kind (entry_at w k).kind ≡ false → (entry_at w k).account ≡ blank
   clean k l ne =
       let p = W.front.plain k l in
       let a = (entry_at w k).account in
       let s = account_laws.sound_told {a = a} p.sound in
-      let b = eqb-false (entry_at w k).kind 6 ne in
-      let c : a.cpu_allowance ≡ 0 = p.no_cpu b in
-      let m : a.memory_limit ≡ 0 = p.no_memory b in
-      let q : a.period_start ≡ 0 = p.no_start b in
+      let c : a.cpu_allowance ≡ 0 = p.no_cpu ne in
+      let m : a.memory_limit ≡ 0 = p.no_memory ne in
+      let q : a.period_start ≡ 0 = p.no_start ne in
       let x : a.cpu_left ≡ 0 = omega (arith, s.cpu) in
       let y : a.cpu_reserved ≡ 0 = omega (arith, s.cpu) in
       let u : a.memory_used ≡ 0 = omega (arith, s.memory) in
@@ -216,7 +215,6 @@ module _ (w : List ℕ) (next : ℕ) (W : Whole w next) (few : get_or w 0 0 ≤ 
       let at_0 : (i : ℕ) → i < get_or w 0 0 → id_at w i ≡ 1 → i ≡ 0 = λ i h e.
       ⊎_elim (λ (g : i < 1). omega arith) (λ (g : 1 ≤ i). absurd (omega (arith, order 0 i g h, one))) (lt_or_ge i 1) in
       record {
-        code = p.code;
         plain = clean k l;
         root = λ e. (let f = (o.is.first (at_0 k l e)).1 in
             (rw f at o.is.kind, omega (arith, o.is.payer, ap (id_at w) f)));
@@ -259,13 +257,16 @@ module _ (w : List ℕ) (next : ℕ) (W : Whole w next) (few : get_or w 0 0 ≤ 
 asked_out : (a : List ℕ) → sound_area a ≡ true → (length a ≡ 45_072) × SoundTable (words (table a)) (decode a).next
 unfolding sound_area rows_in
 asked_out a h =
-    let full = second (eqb (length a) 45_072) (sound (decode a) && all_zero (drop (get_or (words (table a)) 0 0 * 11 + 1) (words (table a)))) h in
-    let S = sound_told (decode a) (first (sound (decode a)) (all_zero (drop (get_or (words (table a)) 0 0 * 11 + 1) (words (table a)))) full) in (
+    let l = words (table a) in
+    let full = second (eqb (length a) 45_072) _ h in
+    let S = sound_told (decode a) (first (sound (decode a)) _ full) in
+    let words_full = second (sound (decode a)) _ full in
+    let named = listed_told l (first (kinds_listed l) _ words_full) in (
       eqb-true (length a) 45_072 (first (eqb (length a) 45_072) _ h),
       record {
         few = rw length_tab at S.few;
-        rest = second (sound (decode a)) _ full;
-        whole = sound_whole (words (table a)) (decode a).next S;
+        rest = second (kinds_listed l) _ words_full;
+        whole = sound_whole l (decode a).next S named;
       },
     )
 
@@ -273,7 +274,8 @@ asked_out a h =
 asked_in : (a : List ℕ) → length a ≡ 45_072 → SoundTable (words (table a)) (decode a).next → sound_area a ≡ true
 unfolding sound_area rows_in
 asked_in a e t =
-    rw (eq-eqb (length a) 45_072 e, sound_shown (decode a) (whole_sound (words (table a)) (decode a).next t.whole t.few)) t.rest
+    let l = words (table a) in
+    rw (eq-eqb (length a) 45_072 e, sound_shown (decode a) (whole_sound l (decode a).next t.whole t.few), listed_shown l (λ i b. (t.whole.front.plain i b).named)) t.rest
 
 refused : (a : List ℕ) → (sound_area a ≡ true → ⊥) → false ≡ sound_area a
 refused a h = test (sound_area a) (λ e. absurd (h e)) (λ e. sym e)

@@ -1,8 +1,7 @@
 -- P1's totals as the code sums them, in one pass over the rows that marks those within the budget. Assumes nothing.
-use Rattle.std.specs.Prelude.{◌≡◌, refl, Bool, true, false, cond, not, ◌||◌, List, [], ◌∷◌, ℕ, zero, suc, ◌+◌, ◌^◌, ◌≤◌, ◌<◌, eqb, length, take, get_or, set}
+use Rattle.std.specs.Prelude.{◌≡◌, refl, Bool, true, false, cond, not, ◌||◌, List, [], ◌∷◌, ℕ, zero, suc, ◌+◌, ◌^◌, ◌≤◌, ◌<◌, eqb, length, take, get_or, set, Some, None}
 use Rattle.std.proofs.Common.{sym, ◌∙◌, ap, arith, add-one, take-suc, take_all, get_or-set_same, get_or-set_other, eqb-true, eq-eqb, ne_eqb}
-use Rattle.std.proofs.Math.Option.{none, some}
-use Rattle.std.proofs.lemmas.Bool.{eqb-false, not-true, not-false}
+use Rattle.std.proofs.lemmas.Bool.{eqb-false, not-false}
 use Rattle.carv_area.specs.Table.{Row, at, total, Rising}
 use Rattle.carv_area.specs.Laws.Table
 use Rattle.carv_area.specs.Laws.Table.{test}
@@ -71,25 +70,18 @@ place_up r s id i p h k at_i q = goes_up r s id p h k (q ∙ sym (ap (λ (x : En
 pub not_first : (r : Registry) → Sound r → (id i : ℕ) → Here no_row r.rows id i → (id ≡ 1 → ⊥) → 1 ≤ i
 not_first r s id zero H k = absurd (go r.rows s.rising H.within H.same (has_root r s))
   where
-    go : (m : List (Row Entry)) → Rising 1 r.next m → 0 < length m → (get_or m 0 no_row).id ≡ id → (at m 1 ≡ none → ⊥) → ⊥
+    go : (m : List (Row Entry)) → Rising 1 r.next m → 0 < length m → (get_or m 0 no_row).id ≡ id → (at m 1 ≡ None → ⊥) → ⊥
     go [] u l q h = omega arith
     go (x ∷ m) u l q h = h (rw (ne_eqb x.id 1 (λ z. k (sym q ∙ z))) (Table.at_below m (suc x.id) r.next 1 u.1 (omega (arith, u.0))))
 
-    has_root : (r : Registry) → Sound r → at r.rows 1 ≡ none → ⊥
+    has_root : (r : Registry) → Sound r → at r.rows 1 ≡ None → ⊥
     has_root r s q = let (e, B) = budget_entry r 1 s.root in let z : ◌≡◌ {A = ℕ} 0 1 = cc in omega arith
 not_first r s id (suc i) H k = omega arith
-
-module _ (r : Registry) (b id : ℕ) (marks : List Bool) (known i : ℕ) (M : Marked r b marks known) (H : Here no_row r.rows id i) (h : i < known) where
-  pub mark_within : i < 512
-  mark_within = omega (arith, M.fits)
-
-  pub mark_right : (t : Bool) → t ≡ get_or marks i false → t ≡ within r b id
-  mark_right t q = q ∙ M.right i h ∙ ap (within r b) H.same
 
 -- The pass.
 
 -- the object at a place
-at_place : (m : List (Row Entry)) (l n k : ℕ) → Rising l n m → k < length m → at m (get_or m k no_row).id ≡ some (get_or m k no_row).it
+at_place : (m : List (Row Entry)) (l n k : ℕ) → Rising l n m → k < length m → at m (get_or m k no_row).id ≡ Some (get_or m k no_row).it
 at_place [] l n k u h = absurd (omega arith)
 at_place (x ∷ m) l n zero u h = rw (eq-eqb x.id x.id refl)
 at_place (x ∷ m) l n (suc k) u h =
@@ -98,7 +90,7 @@ at_place (x ∷ m) l n (suc k) u h =
     let o : ◌≡◌ {A = ℕ} 0 1 = cc in omega arith)) ih
 
 module _ (r : Registry) (s : Sound r) (k : ℕ) (h : k < length r.rows) where
-  place_is : at r.rows (get_or r.rows k no_row).id ≡ some (get_or r.rows k no_row).it
+  place_is : at r.rows (get_or r.rows k no_row).id ≡ Some (get_or r.rows k no_row).it
   place_is = at_place r.rows 1 r.next k s.rising h
 
   pub place_sound : (c : Account) → c ≡ (get_or r.rows k no_row).it.account → account.sound c ≡ true
@@ -106,9 +98,6 @@ module _ (r : Registry) (s : Sound r) (k : ℕ) (h : k < length r.rows) where
 
 -- the row at place k, whose payer is p
 module _ (r : Registry) (s : Sound r) (b k : ℕ) (h : k < length r.rows) where
-  pub row_here : (x : ℕ) → x ≡ (get_or r.rows k no_row).id → x ≡ b → true ≡ within r b (get_or r.rows k no_row).id
-  row_here x q e = here_within r s b _ (sym q ∙ e)
-
   pub row_payer : (p : ℕ) → p ≡ (get_or r.rows k no_row).it.payer → has r p ≡ true
   row_payer p q =
       let (y, B) = payer_at r s (get_or r.rows k no_row).id (get_or r.rows k no_row).it (place_is r s k h) in rw q (ap found B.here)
@@ -117,9 +106,6 @@ module _ (r : Registry) (s : Sound r) (b k : ℕ) (h : k < length r.rows) where
       → t ≡ within r b (get_or r.rows k no_row).id
   row_by_payer x q n p e t w =
       w ∙ ap (within r b) e ∙ sym (within_step r s b _ _ (place_is r s k h) ∙ ap (λ (c : Bool). c || within r b (get_or r.rows k no_row).it.payer) (ne_eqb _ b (λ z. n (q ∙ z))))
-
-pub not_counted : (r : Registry) (i : ℕ) (counts : Bool) → not counts ≡ true → Part r i counts (record { memory_used = 0; memory_free = 0; cpu_left = 0 })
-not_counted r i counts h = let off = not-true counts h in record { used = rw off; free = rw off; left = rw off }
 
 pub counted : (r : Registry) (i : ℕ) (counts : Bool) (c : Account) (f : ℕ) → not counts ≡ false → c ≡ (get_or r.rows i no_row).it.account → f ≡ account.free c
     → Part r i counts (record { memory_used = c.memory_used; memory_free = f; cpu_left = c.cpu_left })

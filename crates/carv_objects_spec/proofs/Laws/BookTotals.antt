@@ -1,11 +1,11 @@
 -- Demand 3 of P1's reading: after every list of calls the totals are those of the book's figures. Assumes nothing.
-use Rattle.std.specs.Prelude.{◌≡◌, refl, Bool, true, false, cond, ◌&&◌, ◌||◌, List, ℕ, zero, suc, ◌≤◌, eqb}
+use Rattle.std.specs.Prelude.{◌≡◌, refl, Bool, true, false, cond, ◌&&◌, ◌||◌, List, ℕ, zero, suc, ◌≤◌, eqb, Option, Some, None}
 use Rattle.std.proofs.Common.{sym, ◌∙◌, ap, arith}
-use Rattle.std.proofs.Math.Option.{Option, none, some}
 use Rattle.carv_area.specs.Table.{at}
 use Rattle.carv_area.specs.Laws.Sums.{weight_of, total_same_at}
 use Rattle.carv_budget.specs.declared.Account.{Account}
 use Rattle.carv_budget.specs.Account.{period}
+use Rattle.carv_objects_spec.specs.Kinds.{is_budget_kind}
 use Rattle.carv_objects_spec.specs.declared.Entry.{Entry}
 use Rattle.carv_objects_spec.specs.Registry.{Registry, opening, or_missing, payer_of}
 use Rattle.carv_objects_spec.specs.Within.{meets, within}
@@ -24,10 +24,10 @@ module _ (r : Registry) (k : Book) (F : FollowsRegistry r k) where
   payer_same i = go (at r.rows i) (at k.objects i) refl refl (F.object i)
     where
       go : (o : Option Entry) (p : Option Object) → at r.rows i ≡ o → at k.objects i ≡ p → ObjectMatch o p → payer_of r i ≡ (object_of k i).payer
-      go none none x y m = ap (λ (e : Option Entry). (or_missing e).payer) x ∙ sym (ap (λ (e : Option Object). (book.or_no_object e).payer) y)
-      go none (some b) x y m = absurd m
-      go (some e) none x y m = absurd m
-      go (some e) (some b) x y m = ap (λ (e : Option Entry). (or_missing e).payer) x ∙ m.payer ∙ sym (ap (λ (e : Option Object). (book.or_no_object e).payer) y)
+      go None None x y m = ap (λ (e : Option Entry). (or_missing e).payer) x ∙ sym (ap (λ (e : Option Object). (book.or_no_object e).payer) y)
+      go None (Some b) x y m = absurd m
+      go (Some e) None x y m = absurd m
+      go (Some e) (Some b) x y m = ap (λ (e : Option Entry). (or_missing e).payer) x ∙ m.payer ∙ sym (ap (λ (e : Option Object). (book.or_no_object e).payer) y)
 
   -- so the way up is the book's
   way_same : (n b i : ℕ) → meets n r b i ≡ climbs n k b i
@@ -39,15 +39,15 @@ module _ (r : Registry) (k : Book) (F : FollowsRegistry r k) where
   -- a figure that agrees for each live budget agrees in the sums
   sum_same : (f : Account → ℕ) (g : Budget → ℕ) → ((a : Account) (b : Budget) → Agrees a b → f a ≡ g b) → (b : ℕ) → Sound r → over f r b ≡ summed g k b
   sum_same f g same b s =
-      total_same_at (λ i e. cond (eqb e.kind 6 && within r b i) (f e.account) 0) (λ i x. cond (climbs i k b i) (g x) 0) r.rows k.budgets 1 r.next 1 k.next
+      total_same_at (λ i e. cond (is_budget_kind e.kind && within r b i) (f e.account) 0) (λ i x. cond (climbs i k b i) (g x) 0) r.rows k.budgets 1 r.next 1 k.next
       s.rising F.budgets_rising λ i. go i (at r.rows i) (at k.budgets i) (F.budget i)
     where
       go : (i : ℕ) (o : Option Entry) (p : Option Budget) → BudgetMatch o p
-          → weight_of (λ i e. cond (eqb e.kind 6 && within r b i) (f e.account) 0) i o ≡ weight_of (λ i x. cond (climbs i k b i) (g x) 0) i p
-      go i none none m = refl
-      go i none (some x) m = absurd m
-      go i (some e) none m = rw m
-      go i (some e) (some x) m = rw (m.kind, same e.account x m.account) (ap (λ (c : Bool). cond c (g x) 0) (way_same i b i))
+          → weight_of (λ i e. cond (is_budget_kind e.kind && within r b i) (f e.account) 0) i o ≡ weight_of (λ i x. cond (climbs i k b i) (g x) 0) i p
+      go i None None m = refl
+      go i None (Some x) m = absurd m
+      go i (Some e) None m = rw m
+      go i (Some e) (Some x) m = rw (m.kind, same e.account x m.account) (ap (λ (c : Bool). cond c (g x) 0) (way_same i b i))
 
   pub totals_same : (b : ℕ) → Sound r → totals r b ≡ totals_of k b
   totals_same b s =
@@ -75,5 +75,5 @@ module _ (i n : ℕ) (k : Book) where
   readings_write_nothing = let w = same (eqb n 0) (eqb n 12) in (w, w, w, w)
 
 pub readings_renew_nothing : (i n : ℕ) (r : Registry)
-    → (renewal_left (pays_for_anything i) n r ≡ none) × (renewal_left (read_account i) n r ≡ none) × (renewal_left (charge_of i) n r ≡ none) × (renewal_left (read_totals i) n r ≡ none)
+    → (renewal_left (pays_for_anything i) n r ≡ None) × (renewal_left (read_account i) n r ≡ None) × (renewal_left (charge_of i) n r ≡ None) × (renewal_left (read_totals i) n r ≡ None)
 readings_renew_nothing i n r = (refl, refl, refl, refl)

@@ -1,9 +1,8 @@
 -- P7 on every sound registry: charges add up and split, are undone, and commute where the payers differ; and whole lists of them. None of it asks that a sum is below 2^64: that
 -- a sum can be an argument of the C function is asked where there are C functions. Assumes nothing.
-use Rattle.std.specs.Prelude.{◌≡◌, refl, Bool, true, false, cond, ◌&&◌, List, [], ◌∷◌, ◌++◌, ℕ, ◌+◌, ◌-◌, ◌≤◌, eqb, leb}
+use Rattle.std.specs.Prelude.{◌≡◌, refl, Bool, true, false, cond, ◌&&◌, List, [], ◌∷◌, ◌++◌, ℕ, ◌+◌, ◌-◌, ◌≤◌, eqb, leb, Option, Some, None}
 use Rattle.std.proofs.Common.{sym, ◌∙◌, ap, arith, eqb-true, eq-eqb, ne_eqb, leb-true, leb-false, le-leb}
 use Rattle.std.proofs.lemmas.Bool.{false≢true, eqb-false, lt-leb}
-use Rattle.std.proofs.Math.Option.{Option, none, some}
 use Rattle.carv_area.specs.Table.{Row, at, alter}
 use Rattle.carv_area.specs.Laws.Table.{test, at_alter_other, at_alter_same, alter_alter, alter_id, alter_swap}
 use Rattle.carv_budget.specs.declared.Account.{Account}
@@ -34,7 +33,7 @@ moved r i p f g = object i g (budget p f r)
 
 module _ (r : Registry) (i p : ℕ) (f : Account → Account) (g : ℕ → ℕ) where
   -- what neither changes
-  stays : {A : Type 0} (h : Option Entry → A) → ((g : ℕ → ℕ) (e : Entry) → h (some (on_charge g e)) ≡ h (some e)) → ((f : Account → Account) (e : Entry) → h (some (on_account f e)) ≡ h (some e))
+  stays : {A : Type 0} (h : Option Entry → A) → ((g : ℕ → ℕ) (e : Entry) → h (Some (on_charge g e)) ≡ h (Some e)) → ((f : Account → Account) (e : Entry) → h (Some (on_account f e)) ≡ h (Some e))
       → (j : ℕ) → h (at (moved r i p f g).rows j) ≡ h (at r.rows j)
   stays h k l j = at_alter_same h i (on_charge g) (k g) (alter p (on_account f) r.rows) j ∙ at_alter_same h p (on_account f) (l f) r.rows j
 
@@ -111,7 +110,7 @@ raised r i n = moved r i (payer_of r i) (λ a. charge a n) (λ c. c + n)
 passes_is : (i n : ℕ) (r : Registry) → has r i ≡ true → passes i n r ≡ leb n (free (paying r i))
 passes_is i n r h = test (leb n (free (paying r i))) (λ c. rw (h, c)) (λ c. rw (h, c))
 
-passed : (i n : ℕ) (r : Registry) → has r i ≡ true → passes i n r ≡ true → charge_more i n r ≡ accept none (raised r i n)
+passed : (i n : ℕ) (r : Registry) → has r i ≡ true → passes i n r ≡ true → charge_more i n r ≡ accept None (raised r i n)
 passed i n r h k = asks.charge_more_done i n r h (sym (passes_is i n r h) ∙ k)
 
 left_is : (i n : ℕ) (r : Registry) → has r i ≡ true → passes i n r ≡ true → left_by i n r ≡ raised r i n
@@ -190,11 +189,11 @@ module _ (i : ℕ) (r : Registry) where
       (λ h. asks.charge_more_missing i (a + b) r h ∙ sym (asks.charge_more_missing i a r h))
 
   -- a charge of 0 is accepted wherever the object is there, nothing free or not, and changes nothing
-  pub nothing : has r i ≡ true → charge_more i 0 r ≡ accept none r
+  pub nothing : has r i ≡ true → charge_more i 0 r ≡ accept None r
   nothing h =
       let p = payer_of r i in
       passed i 0 r h (passes_is i 0 r h ∙ le-leb 0 (free (paying r i)) (omega arith))
-      ∙ ap (λ (z : Registry). accept none z)
+      ∙ ap (λ (z : Registry). accept None z)
       (moved_as r i p (λ x. charge x 0) (λ x. x) (λ c. c + 0) (λ c. c) (λ x. used_as x (x.memory_used + 0) x.memory_used (omega arith)) (λ c. omega arith)
       ∙ moved_none r i p)
 
@@ -217,7 +216,7 @@ module _ (i : ℕ) (r : Registry) (s : sound r ≡ true) where
       let two = second (passes i a r) (passes i b (left_by i a r)) parts in
       let h = passing_there i a r one in
       passed i b (left_by i a r) (left_has i a i r ∙ h) two
-      ∙ ap (λ (z : Registry). accept none z) (sym (left_is i b (left_by i a r) (left_has i a i r ∙ h) two) ∙ left_next i a r S one b two)
+      ∙ ap (λ (z : Registry). accept None z) (sym (left_is i b (left_by i a r) (left_has i a i r ∙ h) two) ∙ left_next i a r S one b two)
       ∙ sym (passed i (a + b) r h k)
 
   -- "Where a passes and b fails, the state keeps a": b is refused with 12 and leaves what a left; so is a + b, and leaves what was there
@@ -236,14 +235,14 @@ module _ (i : ℕ) (r : Registry) (s : sound r ≡ true) where
       (λ l. let (second_kept, whole_kept) = kept a b k l in ap (λ (z : RegistryReply). z.number) second_kept ∙ sym (ap (λ (z : RegistryReply). z.number) whole_kept))
 
   -- "An accepted charge followed by its uncharge restores the state"
-  pub restored : (a : ℕ) → passes i a r ≡ true → uncharge i a (left_by i a r) ≡ accept none r
+  pub restored : (a : ℕ) → passes i a r ≡ true → uncharge i a (left_by i a r) ≡ accept None r
   restored a k =
       let h = passing_there i a r k in
       let p = payer_of r i in
       let charge_after : (entry (left_by i a r) i).charge ≡ (entry r i).charge + a =
       ap (λ (z : Registry). (entry z i).charge) (left_is i a r h k) ∙ moved_charge r i p (λ x. charge x a) (λ c. c + a) h in
       asks.uncharge_done i a (left_by i a r) (left_has i a i r ∙ h) (le-leb a (entry (left_by i a r) i).charge (omega (arith, charge_after)))
-      ∙ ap (λ (z : Registry). accept none z) (
+      ∙ ap (λ (z : Registry). accept None z) (
       ap (λ (q : ℕ). moved (left_by i a r) i q (λ x. credit x a) (λ c. c - a)) (left_payer i a i r)
       ∙ ap (λ (z : Registry). moved z i p (λ x. credit x a) (λ c. c - a)) (left_is i a r h k)
       ∙ moved_twice r i p (λ x. charge x a) (λ x. credit x a) (λ c. c + a) (λ c. c - a)
@@ -255,7 +254,7 @@ module _ (i : ℕ) (r : Registry) (s : sound r ≡ true) where
 -- Two charges, on objects i and j, in either order.
 
 -- an answer goes by what the call reads
-answer_is : (i n : ℕ) (r : Registry) → answer (charge_more i n r) ≡ cond (has r i) (cond (leb n (free (paying r i))) (0, none) (12, none)) (7, none)
+answer_is : (i n : ℕ) (r : Registry) → answer (charge_more i n r) ≡ cond (has r i) (cond (leb n (free (paying r i))) (0, None) (12, None)) (7, None)
 answer_is i n r = test (has r i) (λ h. rw h (test (leb n (free (paying r i))) (λ c. rw c) (λ c. rw c))) (λ h. rw h)
 
 -- a charge on j doesn't reach what another payer's object i reads
@@ -269,8 +268,8 @@ module _ (i j : ℕ) (r : Registry) (apart : has r i ≡ true → has r j ≡ tr
 
   answer_apart : (a b : ℕ) → answer (charge_more i a (left_by j b r)) ≡ answer (charge_more i a r)
   answer_apart a b = test (has r i)
-      (λ h. answer_is i a (left_by j b r) ∙ ap (λ (z : Bool). cond z (cond (leb a (free (paying (left_by j b r) i))) (0, none) (12, none)) (7, none)) (left_has j b i r)
-      ∙ ap (λ (x : Account). cond (has r i) (cond (leb a (free x)) (0, none) (12, none)) (7, none)) (paying_apart b h) ∙ sym (answer_is i a r))
+      (λ h. answer_is i a (left_by j b r) ∙ ap (λ (z : Bool). cond z (cond (leb a (free (paying (left_by j b r) i))) (0, None) (12, None)) (7, None)) (left_has j b i r)
+      ∙ ap (λ (x : Account). cond (has r i) (cond (leb a (free x)) (0, None) (12, None)) (7, None)) (paying_apart b h) ∙ sym (answer_is i a r))
       (λ h. ap answer (asks.charge_more_missing i a (left_by j b r) (left_has j b i r ∙ h)) ∙ sym (ap answer (asks.charge_more_missing i a r h)))
 
   passes_apart : (a b : ℕ) → passes i a (left_by j b r) ≡ passes i a r

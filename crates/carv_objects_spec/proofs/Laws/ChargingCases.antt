@@ -1,9 +1,10 @@
 -- P7 on three budgets, each carved from the one before, written out: the definitions compute these answers. Assumes nothing.
-use Rattle.std.specs.Prelude.{◌≡◌, refl, Bool, true, false, not, ◌&&◌, List, [], ◌∷◌, ℕ, ◌^◌, ◌-◌, eqb}
-use Rattle.std.proofs.Math.Option.{some}
+use Rattle.std.specs.Prelude.{◌≡◌, refl, Bool, true, false, not, ◌&&◌, List, [], ◌∷◌, ℕ, ◌^◌, ◌-◌, eqb, Some}
 use Rattle.std.proofs.Common.{arith}
 use Rattle.carv_area.specs.Table.{Row}
 use Rattle.carv_budget.specs.Account as account
+use Rattle.carv_objects_spec.specs.declared.kind.Kind.{Kind}
+use Rattle.carv_objects_spec.specs.declared.kind.Kind.TheVariants.{Frame, Endpoint, Budget}
 use Rattle.carv_objects_spec.specs.declared.Entry.{Entry}
 use Rattle.carv_objects_spec.specs.Reply as reply
 use Rattle.carv_objects_spec.specs.Registry.{Registry, entry, account_of, opening, charge_more, uncharge, charge_of}
@@ -13,10 +14,10 @@ use Rattle.carv_objects_spec.specs.Charging.{passes, left_by, all_pass, left_by_
 abbrev budget : (i payer bytes limit used reserved : ℕ) → Row Entry
 budget i payer bytes limit used reserved = record {
   id = i;
-  it = record { kind = 6; payer = payer; charge = bytes; account = account.with_memory (account.fresh 0 limit 0) used reserved };
+  it = record { kind = Budget; payer = payer; charge = bytes; account = account.with_memory (account.fresh 0 limit 0) used reserved };
 }
 
-abbrev plain : (i kind payer bytes : ℕ) → Row Entry
+abbrev plain : (i : ℕ) (kind : Kind) (payer bytes : ℕ) → Row Entry
 plain i kind payer bytes = record { id = i; it = record { kind = kind; payer = payer; charge = bytes; account = account.blank } }
 
 -- The root, 1, with 100,000 bytes, 90,776 of them free; a Frame of it, 2; budget 3 carved from 1, with 5,000 bytes, 476 free; a Frame of 3, 4; budget 5 carved from 3, with 300
@@ -24,7 +25,7 @@ plain i kind payer bytes = record { id = i; it = record { kind = kind; payer = p
 abbrev tree : Registry
 tree = record {
   next = 7;
-  rows = budget 1 1 0 100_000 4_224 5_000 ∷ plain 2 3 1 4_096 ∷ budget 3 1 128 5_000 4_224 300 ∷ plain 4 3 3 4_096 ∷ budget 5 3 128 300 128 0 ∷ plain 6 4 5 128 ∷ [];
+  rows = budget 1 1 0 100_000 4_224 5_000 ∷ plain 2 Frame 1 4_096 ∷ budget 3 1 128 5_000 4_224 300 ∷ plain 4 Frame 3 4_096 ∷ budget 5 3 128 300 128 0 ∷ plain 6 Endpoint 5 128 ∷ [];
 }
 
 -- a root with all the memory that a word can say
@@ -83,7 +84,7 @@ pub record Cases : Type 0 where
   pub missing_either_order : answers ((charge_more 9 1 tree).number ∷ (charge_more 4 476 (left_by 9 1 tree)).number ∷ (charge_more 9 1 (left_by 4 476 tree)).number ∷ (charge_more 9 1 (left_by 8 1 tree)).number ∷ [])
       (7 ∷ 0 ∷ 7 ∷ 7 ∷ []) ≡ true
   -- an answer is the number and the value: of a charge that is read, its payer and bytes
-  pub answered : answer (charge_of 4 tree) ≡ (0, some (reply.charge 3 4_096))
+  pub answered : answer (charge_of 4 tree) ≡ (0, Some (reply.charge 3 4_096))
   -- one payer, and it covers one of the two: the first is accepted, whichever that is
   pub one_payer : answers ((charge_more 4 476 tree).number ∷ (charge_more 5 476 (left_by 4 476 tree)).number ∷ (charge_more 5 476 tree).number ∷ (charge_more 4 476 (left_by 5 476 tree)).number ∷ [])
       (0 ∷ 12 ∷ 0 ∷ 12 ∷ []) ≡ true

@@ -1,12 +1,12 @@
 -- A refused call of the registry leaves what specs/Demand1.antt says, and no call answers 1 or 15. Assumes nothing.
-use Rattle.std.specs.Prelude.{◌≡◌, refl, Bool, true, false, cond, not, ◌&&◌, ◌||◌, ℕ, eqb, leb}
+use Rattle.std.specs.Prelude.{◌≡◌, refl, Bool, true, false, cond, not, ◌&&◌, ◌||◌, ℕ, eqb, leb, Option, Some, None}
 use Rattle.std.proofs.Common.{ap, ◌∙◌, arith, leb-true}
-use Rattle.std.proofs.Math.Option.{Option, none, some}
 use Rattle.std.proofs.lemmas.Bool.{eqb-false, not-true}
 use Rattle.carv_area.specs.Laws.Table.{test}
 use Rattle.carv_budget.specs.Account as account
+use Rattle.carv_objects_spec.specs.Kinds.{listed, kind_of, bytes_of, creatable, needs_backing, is_budget_kind}
 use Rattle.carv_objects_spec.specs.Reply.{Reply, refuse}
-use Rattle.carv_objects_spec.specs.Registry.{Registry, RegistryReply, entry, has, is_budget, account_of, payer_of, pays_for, budget, listed, bytes_of, creatable, needs_backing, has_place, has_next}
+use Rattle.carv_objects_spec.specs.Registry.{Registry, RegistryReply, entry, has, is_budget, account_of, payer_of, pays_for, budget, has_place, has_next}
 use Rattle.carv_objects_spec.specs.Book.{Call, create, insert, create_budget, charge_more, uncharge, remove, refill, charge_cpu, pays_for_anything, read_account, charge_of, read_totals}
 use Rattle.carv_objects_spec.specs.Runs.{run}
 use Rattle.carv_objects_spec.specs.Demand1.{renewal_left, with_renewal}
@@ -41,7 +41,7 @@ pub record Leaves (c : Call) (r : Registry) : Type 0 where
   pub not_one : (run c r).number ≡ 1 → ⊥
   pub not_15 : (run c r).number ≡ 15 → ⊥
 
-kept : (c : Call) (r : Registry) → ((n : ℕ) → renewal_left c n r ≡ none) → Keeps r (run c r) → Leaves c r
+kept : (c : Call) (r : Registry) → ((n : ℕ) → renewal_left c n r ≡ None) → Keeps r (run c r) → Leaves c r
 kept c r h k = record { left = λ q. rw (h (run c r).number) (k.left q); not_one = k.not_one; not_15 = k.not_15 }
 
 -- accepted, or refused by a question before the renewal, or by one past it
@@ -56,11 +56,11 @@ module _ (c : Call) (r : Registry) where
     not_15 = λ q. eqb-false n 15 (not-true (eqb n 15) (second (leb 2 n) _ h)) (rw e at q);
   }
 
-renewed_left : (i time : ℕ) (r : Registry) → is_budget r i ≡ true → with_renewal (some (i, time)) r ≡ budget i (λ a. account.renew a time) r
+renewed_left : (i time : ℕ) (r : Registry) → is_budget r i ≡ true → with_renewal (Some (i, time)) r ≡ budget i (λ a. account.renew a time) r
 renewed_left i time r d = ap (λ (z : RegistryReply). z.after) (refill_done i time r d)
 
 carve_renewal : (parent cpu memory time : ℕ) (r : Registry) (b : Bool) → leb 128 (account.free (account_of r parent)) ≡ b
-    → renewal_left (create_budget parent cpu memory time) 12 r ≡ cond b (some (parent, time)) none
+    → renewal_left (create_budget parent cpu memory time) 12 r ≡ cond b (Some (parent, time)) None
 carve_renewal parent cpu memory time r b e = rw e
 
 carve_leaves : (parent cpu memory time : ℕ) (r : Registry) → Leaves (create_budget parent cpu memory time) r
@@ -97,10 +97,10 @@ cpu_leaves i ns time r =
 pub leaves : (c : Call) (r : Registry) → Leaves c r
 leaves (create kind payer backing) r = kept (create kind payer backing) r (λ n. refl)
     (ask 4 (listed kind) r refl (ask 6 (has_place r) r refl (ask 6 (has_next r) r refl
-    (ask 7 (is_budget r payer) r refl (ask 12 (leb (bytes_of kind) (account.free (account_of r payer))) r refl
-    (ask 13 (creatable kind) r refl (ask 14 (not (needs_backing kind) || backing) r refl (accepted r _ refl))))))))
+    (ask 7 (is_budget r payer) r refl (ask 12 (leb (bytes_of (kind_of kind)) (account.free (account_of r payer))) r refl
+    (ask 13 (creatable (kind_of kind)) r refl (ask 14 (not (needs_backing (kind_of kind)) || backing) r refl (accepted r _ refl))))))))
 leaves (insert kind payer bytes) r = kept (insert kind payer bytes) r (λ n. refl)
-    (ask 4 (listed kind) r refl (ask 4 (not (eqb kind 6)) r refl (ask 6 (has_place r) r refl
+    (ask 4 (listed kind) r refl (ask 4 (not (is_budget_kind (kind_of kind))) r refl (ask 6 (has_place r) r refl
     (ask 6 (has_next r) r refl (ask 7 (is_budget r payer) r refl
     (ask 12 (leb bytes (account.free (account_of r payer))) r refl (accepted r _ refl)))))))
 leaves (create_budget parent cpu memory time) r = carve_leaves parent cpu memory time r
@@ -118,7 +118,7 @@ leaves (charge_of i) r = kept (charge_of i) r (λ n. refl) (ask 7 (has r i) r re
 leaves (read_totals i) r = kept (read_totals i) r (λ n. refl) (ask 7 (is_budget r i) r refl (accepted r _ refl))
 
 -- only a refusal with 12 leaves a renewal
-pub only_12_renews : (c : Call) (n : ℕ) (r : Registry) → eqb n 12 ≡ false → renewal_left c n r ≡ none
+pub only_12_renews : (c : Call) (n : ℕ) (r : Registry) → eqb n 12 ≡ false → renewal_left c n r ≡ None
 only_12_renews (create kind payer backing) n r h = refl
 only_12_renews (insert kind payer bytes) n r h = refl
 only_12_renews (create_budget parent cpu memory time) n r h = rw h

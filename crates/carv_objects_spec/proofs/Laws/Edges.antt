@@ -1,10 +1,10 @@
 -- Document 01's marked cases, (m), as far as the registry shows them: one list, which the definitions satisfy together. Ticks and plannings are the scheduler's. Assumes nothing.
-use Rattle.std.specs.Prelude.{Bool, true, false, not, ◌&&◌, List, [], ◌∷◌, ◌≡◌, refl, ℕ, eqb}
-use Rattle.std.proofs.Math.Option.{Option, none, some}
+use Rattle.std.specs.Prelude.{Bool, true, false, not, ◌&&◌, List, [], ◌∷◌, ◌≡◌, refl, ℕ, eqb, Option, Some, None}
 use Rattle.std.proofs.Common.{ap}
 use Rattle.carv_area.specs.Table.{Row}
 use Rattle.carv_budget.specs.declared.Account.{Account}
 use Rattle.carv_budget.specs.Account.{blank, due, renew}
+use Rattle.carv_objects_spec.specs.declared.kind.Kind.TheVariants.{Frame, Budget}
 use Rattle.carv_objects_spec.specs.declared.Entry.{Entry}
 use Rattle.carv_objects_spec.specs.Reply.{Value, id, renewed, pays, of_account, charge, of_totals}
 use Rattle.carv_objects_spec.specs.Registry.{Registry, RegistryReply, entry, has, account_of, opening, create, create_budget, uncharge, remove, refill, charge_cpu}
@@ -18,22 +18,22 @@ abbrev accepted : RegistryReply → Bool
 accepted x = eqb x.number 0
 
 abbrev is_id : ℕ → Option Value → Bool
-is_id i none = false
-is_id i (some (id j)) = eqb j i
-is_id i (some (renewed b)) = false
-is_id i (some (pays b)) = false
-is_id i (some (of_account a)) = false
-is_id i (some (charge p n)) = false
-is_id i (some (of_totals t)) = false
+is_id i None = false
+is_id i (Some (id j)) = eqb j i
+is_id i (Some (renewed b)) = false
+is_id i (Some (pays b)) = false
+is_id i (Some (of_account a)) = false
+is_id i (Some (charge p n)) = false
+is_id i (Some (of_totals t)) = false
 
 abbrev is_renewal : Option Value → Bool
-is_renewal none = false
-is_renewal (some (id j)) = false
-is_renewal (some (renewed b)) = b
-is_renewal (some (pays b)) = false
-is_renewal (some (of_account a)) = false
-is_renewal (some (charge p n)) = false
-is_renewal (some (of_totals t)) = false
+is_renewal None = false
+is_renewal (Some (id j)) = false
+is_renewal (Some (renewed b)) = b
+is_renewal (Some (pays b)) = false
+is_renewal (Some (of_account a)) = false
+is_renewal (Some (charge p n)) = false
+is_renewal (Some (of_totals t)) = false
 
 -- accepted, with this id
 abbrev gives : ℕ → RegistryReply → Bool
@@ -108,7 +108,7 @@ abbrev pub budget : (i bytes allowance limit left cpu_reserved used memory_reser
 budget i bytes allowance limit left cpu_reserved used memory_reserved = record {
   id = i;
   it = record {
-    kind = 6;
+    kind = Budget;
     payer = 1;
     charge = bytes;
     account = record {
@@ -125,7 +125,7 @@ budget i bytes allowance limit left cpu_reserved used memory_reserved = record {
 
 -- a Frame
 abbrev pub object : (i payer : ℕ) → Row Entry
-object i payer = record { id = i; it = record { kind = 3; payer = payer; charge = 4_096; account = blank } }
+object i payer = record { id = i; it = record { kind = Frame; payer = payer; charge = 4_096; account = blank } }
 
 abbrev pub registry : ℕ → List (Row Entry) → Registry
 registry next rows = record { next = next; rows = rows }
@@ -142,15 +142,15 @@ around next used rows =
     registry next (budget 1 0 10_000_000 1_000_000 0 10_000_000 4_352 8_192 ∷ object 2 1
     ∷ budget 3 128 4_000_000 8_192 4_000_000 0 used 0 ∷ budget 4 128 6_000_000 0 6_000_000 0 0 0 ∷ rows)
 
-frame_is : frame ≡ record { number = 0; value = some (id 2); after = framed }
+frame_is : frame ≡ record { number = 0; value = Some (id 2); after = framed }
 unfolding frame root
 frame_is = refl
 
-carve_is : carve ≡ record { number = 0; value = some (id 3); after = carved }
+carve_is : carve ≡ record { number = 0; value = Some (id 3); after = carved }
 unfolding carve due renew
 carve_is = ap (λ (x : RegistryReply). create_budget 1 4_000_000 8_192 0 x.after) frame_is
 
-second_is : second ≡ record { number = 0; value = some (id 4); after = around 5 0 [] }
+second_is : second ≡ record { number = 0; value = Some (id 4); after = around 5 0 [] }
 unfolding second due renew
 second_is = ap (λ (x : RegistryReply). create_budget 1 6_000_000 0 0 x.after) carve_is
 

@@ -1,7 +1,6 @@
 -- Demand 3 for the registry's calls: after every list of calls from an accepted opening, each live budget's line is the book's four figures. Assumes nothing.
-use Rattle.std.specs.Prelude.{◌≡◌, refl, Bool, true, false, List, [], ◌∷◌, ◌++◌, ℕ, suc, ◌+◌, ◌-◌, ◌≤◌, eqb}
-use Rattle.std.proofs.Common.{sym, ◌∙◌, ap, subst, arith, eqb-true, eq-eqb}
-use Rattle.std.proofs.Math.Option.{Option, none, some}
+use Rattle.std.specs.Prelude.{◌≡◌, refl, Bool, true, false, List, [], ◌∷◌, ◌++◌, ℕ, suc, ◌+◌, ◌-◌, ◌≤◌, eqb, Option, Some, None}
+use Rattle.std.proofs.Common.{sym, ◌∙◌, ap, subst, arith, eqb-true}
 use Rattle.std.proofs.lemmas.Bool.{eqb-false}
 use Rattle.carv_area.specs.Laws.Table
 use Rattle.carv_area.specs.Table.{Row, at, alter, erase, Rising}
@@ -10,10 +9,13 @@ use Rattle.carv_budget.specs.declared.Account.{Account}
 use Rattle.carv_budget.specs.Account as account
 use Rattle.carv_budget.specs.Account.{period, renew, due}
 use Rattle.carv_budget.proofs.Laws.Account as account_laws
+use Rattle.carv_objects_spec.specs.declared.kind.Kind.{Kind}
+use Rattle.carv_objects_spec.specs.Kinds.{kind_of, bytes_of, is_budget_kind}
+use Rattle.carv_objects_spec.proofs.Laws.Kinds.{kind_shown, kind_apart}
 use Rattle.carv_objects_spec.specs.declared.Entry.{Entry}
 use Rattle.carv_objects_spec.proofs.Laws.Asked.{asked}
 use Rattle.carv_objects_spec.specs.Registry as registry
-use Rattle.carv_objects_spec.specs.Registry.{Registry, RegistryReply, or_missing, is_budget, account_of, has, on_account, budget, renew_if, object, add, drop, plain, carved, bytes_of}
+use Rattle.carv_objects_spec.specs.Registry.{Registry, RegistryReply, or_missing, is_budget, account_of, has, on_account, budget, renew_if, object, add, drop, plain, carved}
 use Rattle.carv_objects_spec.proofs.Laws.SoundFacts.{Sound}
 use Rattle.carv_objects_spec.proofs.Laws.Steps.{BudgetEntry, ObjectEntry, at_on_account, added}
 use Rattle.carv_objects_spec.proofs.Laws.Kept as calls
@@ -40,15 +42,15 @@ pub record SameObject (e : Entry) (o : Object) : Type 0 where
   pub charge : e.charge ≡ o.charge
 
 pub record SameBudget (e : Entry) (b : Budget) : Type 0 where
-  pub kind : eqb e.kind 6 ≡ true
+  pub kind : is_budget_kind e.kind ≡ true
   pub account : Agrees e.account b
 
 -- what stands under one id in two tables; L where only the first has something
 abbrev pub Match : {B : Type 0} (M : Entry → B → Type 0) (L : Entry → Type 0) → Option Entry → Option B → Type 0
-Match M L none none = Unit {0}
-Match M L none (some b) = ⊥
-Match M L (some e) none = L e
-Match M L (some e) (some b) = M e b
+Match M L None None = Unit {0}
+Match M L None (Some b) = ⊥
+Match M L (Some e) None = L e
+Match M L (Some e) (Some b) = M e b
 
 -- every entry has its object
 abbrev pub ObjectMatch : Option Entry → Option Object → Type 0
@@ -56,7 +58,7 @@ ObjectMatch = Match SameObject (λ e. ⊥)
 
 -- every budget, and no other entry, has its budget
 abbrev pub BudgetMatch : Option Entry → Option Budget → Type 0
-BudgetMatch = Match SameBudget (λ e. eqb e.kind 6 ≡ false)
+BudgetMatch = Match SameBudget (λ e. is_budget_kind e.kind ≡ false)
 
 pub record FollowsRegistry (r : Registry) (k : Book) : Type 0 where
   pub next : r.next ≡ k.next
@@ -67,31 +69,31 @@ pub record FollowsRegistry (r : Registry) (k : Book) : Type 0 where
 
 -- Looking up.
 
-pub object_page : (r : Registry) (k : Book) → FollowsRegistry r k → (i : ℕ) (e : Entry) → at r.rows i ≡ some e
-    → (o : Object) × (at k.objects i ≡ some o) × SameObject e o
+pub object_page : (r : Registry) (k : Book) → FollowsRegistry r k → (i : ℕ) (e : Entry) → at r.rows i ≡ Some e
+    → (o : Object) × (at k.objects i ≡ Some o) × SameObject e o
 object_page r k F i e h = go (at k.objects i) refl
   where
-    go : (o : Option Object) → at k.objects i ≡ o → (o : Object) × (at k.objects i ≡ some o) × SameObject e o
-    go none q = absurd (rw (h, q) at (F.object i))
-    go (some o) q = (o, q, rw (h, q) at (F.object i))
+    go : (o : Option Object) → at k.objects i ≡ o → (o : Object) × (at k.objects i ≡ Some o) × SameObject e o
+    go None q = absurd (rw (h, q) at (F.object i))
+    go (Some o) q = (o, q, rw (h, q) at (F.object i))
 
 pub budget_page : (r : Registry) (k : Book) → FollowsRegistry r k → (i : ℕ) (e : Entry) → BudgetEntry r i e
-    → (b : Budget) × (at k.budgets i ≡ some b) × Agrees e.account b
+    → (b : Budget) × (at k.budgets i ≡ Some b) × Agrees e.account b
 budget_page r k F i e B = go (at k.budgets i) refl
   where
-    go : (o : Option Budget) → at k.budgets i ≡ o → (b : Budget) × (at k.budgets i ≡ some b) × Agrees e.account b
-    go none q = let h : eqb e.kind 6 ≡ false = rw (B.here, q) at (F.budget i) in absurd (eqb-false e.kind 6 h B.kind)
-    go (some b) q = let m : SameBudget e b = rw (B.here, q) at (F.budget i) in (b, q, m.account)
+    go : (o : Option Budget) → at k.budgets i ≡ o → (b : Budget) × (at k.budgets i ≡ Some b) × Agrees e.account b
+    go None q = let h : is_budget_kind e.kind ≡ false = rw (B.here, q) at (F.budget i) in absurd (kind_apart e.kind h B.kind)
+    go (Some b) q = let m : SameBudget e b = rw (B.here, q) at (F.budget i) in (b, q, m.account)
 
 -- the budgets live by the book are the registry's
 pub live_same : (r : Registry) (k : Book) → FollowsRegistry r k → (i : ℕ) → is_live k i ≡ is_budget r i
 live_same r k F i = go (at r.rows i) (at k.budgets i) refl refl (F.budget i)
   where
     go : (o : Option Entry) (p : Option Budget) → at r.rows i ≡ o → at k.budgets i ≡ p → BudgetMatch o p → is_live k i ≡ is_budget r i
-    go none none x y m = rw (ap or_missing x, ap book.is_some y)
-    go none (some b) x y m = absurd m
-    go (some e) none x y m = rw (ap or_missing x, ap book.is_some y, m)
-    go (some e) (some b) x y m = rw (ap or_missing x, ap book.is_some y, m.kind)
+    go None None x y m = rw (ap or_missing x, ap book.is_some y)
+    go None (Some b) x y m = absurd m
+    go (Some e) None x y m = rw (ap or_missing x, ap book.is_some y, m)
+    go (Some e) (Some b) x y m = rw (ap or_missing x, ap book.is_some y, m.kind)
 
 -- a live budget, as it reads
 pub budget_agrees : (r : Registry) (k : Book) → FollowsRegistry r k → (i : ℕ) → is_budget r i ≡ true → Agrees (account_of r i) (budget_of k i)
@@ -202,25 +204,25 @@ fresh_agrees cpu memory start start' h =
 
 module _ {B : Type 0} (M : Entry → B → Type 0) (L : Entry → Type 0) (m : List (Row Entry)) (n : List (Row B))
     (each : (j : ℕ) → Match M L (at m j) (at n j)) where
-  match_alter : (i : ℕ) (f : Entry → Entry) (g : B → B) (e : Entry) (b : B) → at m i ≡ some e → at n i ≡ some b → M (f e) (g b)
+  match_alter : (i : ℕ) (f : Entry → Entry) (g : B → B) (e : Entry) (b : B) → at m i ≡ Some e → at n i ≡ Some b → M (f e) (g b)
       → (j : ℕ) → Match M L (at (alter i f m) j) (at (alter i g n) j)
   match_alter i f g e b here there it j = test (eqb i j)
       (λ a. rw (← eqb-true i j a) (rw (Table.at_alter m i f e here, Table.at_alter n i g b there) it))
       (λ a. rw (Table.at_alter_other m i j f (eqb-false i j a), Table.at_alter_other n i j g (eqb-false i j a)) (each j))
 
-  match_first : (i : ℕ) (f : Entry → Entry) (e : Entry) → at m i ≡ some e → ((b : Option B) → Match M L (some e) b → Match M L (some (f e)) b)
+  match_first : (i : ℕ) (f : Entry → Entry) (e : Entry) → at m i ≡ Some e → ((b : Option B) → Match M L (Some e) b → Match M L (Some (f e)) b)
       → (j : ℕ) → Match M L (at (alter i f m) j) (at n j)
   match_first i f e here it j = test (eqb i j)
       (λ a. rw (← eqb-true i j a) (rw (Table.at_alter m i f e here) (it (at n i) (rw here at (each i)))))
       (λ a. rw (Table.at_alter_other m i j f (eqb-false i j a)) (each j))
 
-  match_add : (i : ℕ) (e : Entry) (b : B) → at m i ≡ none → at n i ≡ none → M e b
+  match_add : (i : ℕ) (e : Entry) (b : B) → at m i ≡ None → at n i ≡ None → M e b
       → (j : ℕ) → Match M L (at (m ++ (record { id = i; it = e } ∷ [])) j) (at (n ++ (record { id = i; it = b } ∷ [])) j)
   match_add i e b here there it j = test (eqb i j)
       (λ a. rw (← eqb-true i j a) (rw (Table.at_snoc m i 0 e here, Table.at_snoc n i 0 b there) it))
       (λ a. rw (Table.at_snoc_other m i j e (eqb-false i j a), Table.at_snoc_other n i j b (eqb-false i j a)) (each j))
 
-  match_add_first : (i : ℕ) (e : Entry) → at m i ≡ none → at n i ≡ none → L e → (j : ℕ) → Match M L (at (m ++ (record { id = i; it = e } ∷ [])) j) (at n j)
+  match_add_first : (i : ℕ) (e : Entry) → at m i ≡ None → at n i ≡ None → L e → (j : ℕ) → Match M L (at (m ++ (record { id = i; it = e } ∷ [])) j) (at n j)
   match_add_first i e here there it j = test (eqb i j)
       (λ a. rw (← eqb-true i j a) (rw (Table.at_snoc m i 0 e here, there) it))
       (λ a. rw (Table.at_snoc_other m i j e (eqb-false i j a)) (each j))
@@ -246,15 +248,15 @@ follow_account r k F i e B f g step =
       objects_rising = F.objects_rising;
       budgets_rising = Table.rising_alter k.budgets 1 k.next i g F.budgets_rising;
       object = match_first SameObject (λ e. ⊥) r.rows k.objects F.object i (on_account f) e B.here same;
-      budget = match_alter SameBudget (λ e. eqb e.kind 6 ≡ false) r.rows k.budgets F.budget i (on_account f) g e b B.here there
-          (record { kind = eq-eqb e.kind 6 B.kind; account = step b agrees });
+      budget = match_alter SameBudget (λ e. is_budget_kind e.kind ≡ false) r.rows k.budgets F.budget i (on_account f) g e b B.here there
+          (record { kind = kind_shown e.kind B.kind; account = step b agrees });
     }
   where
-    same : (o : Option Object) → ObjectMatch (some e) o → ObjectMatch (some (on_account f e)) o
-    same none m = m
-    same (some o) m = record { payer = m.payer; charge = m.charge }
+    same : (o : Option Object) → ObjectMatch (Some e) o → ObjectMatch (Some (on_account f e)) o
+    same None m = m
+    same (Some o) m = record { payer = m.payer; charge = m.charge }
 
-follow_charge : (r : Registry) (k : Book) → FollowsRegistry r k → (i : ℕ) (e : Entry) → at r.rows i ≡ some e → (g : ℕ → ℕ)
+follow_charge : (r : Registry) (k : Book) → FollowsRegistry r k → (i : ℕ) (e : Entry) → at r.rows i ≡ Some e → (g : ℕ → ℕ)
     → FollowsRegistry (object i g r) (book.on_charge i g k)
 follow_charge r k F i e here g =
     let (o, there, m) = object_page r k F i e here in
@@ -264,45 +266,45 @@ follow_charge r k F i e here g =
       budgets_rising = F.budgets_rising;
       object = match_alter SameObject (λ e. ⊥) r.rows k.objects F.object i (registry.on_charge g)
           (λ o. record { payer = o.payer; charge = g o.charge }) e o here there (record { payer = m.payer; charge = ap g m.charge });
-      budget = match_first SameBudget (λ e. eqb e.kind 6 ≡ false) r.rows k.budgets F.budget i (registry.on_charge g) e here same;
+      budget = match_first SameBudget (λ e. is_budget_kind e.kind ≡ false) r.rows k.budgets F.budget i (registry.on_charge g) e here same;
     }
   where
-    same : (b : Option Budget) → BudgetMatch (some e) b → BudgetMatch (some (registry.on_charge g e)) b
-    same none m = m
-    same (some b) m = record { kind = m.kind; account = m.account }
+    same : (b : Option Budget) → BudgetMatch (Some e) b → BudgetMatch (Some (registry.on_charge g e)) b
+    same None m = m
+    same (Some b) m = record { kind = m.kind; account = m.account }
 
 -- the next id is free in the three tables
 module _ (r : Registry) (k : Book) (F : FollowsRegistry r k) (up : Rising 1 r.next r.rows) where
-  no_entry : at r.rows r.next ≡ none
+  no_entry : at r.rows r.next ≡ None
   no_entry = Table.at_above r.rows 1 r.next r.next up (omega arith)
 
-  no_object : at k.objects r.next ≡ none
+  no_object : at k.objects r.next ≡ None
   no_object = Table.at_above k.objects 1 k.next r.next F.objects_rising (omega (arith, F.next))
 
-  no_budget : at k.budgets r.next ≡ none
+  no_budget : at k.budgets r.next ≡ None
   no_budget = Table.at_above k.budgets 1 k.next r.next F.budgets_rising (omega (arith, F.next))
 
   add_objects : (x : Entry) → (i : ℕ) → ObjectMatch (at (add x r).rows i) (at (book.add_object x.payer x.charge k).objects i)
   add_objects x = rw (← F.next) (match_add SameObject (λ e. ⊥) r.rows k.objects F.object r.next x
       (record { payer = x.payer; charge = x.charge }) no_entry no_object (record { payer = refl; charge = refl }))
 
-  follow_add : (x : Entry) → eqb x.kind 6 ≡ false → FollowsRegistry (add x r) (book.add_object x.payer x.charge k)
+  follow_add : (x : Entry) → is_budget_kind x.kind ≡ false → FollowsRegistry (add x r) (book.add_object x.payer x.charge k)
   follow_add x h = record {
     next = ap suc F.next;
     objects_rising = Table.rising_snoc k.objects 1 k.next (record { payer = x.payer; charge = x.charge }) F.objects_rising;
     budgets_rising = rising_more k.budgets 1 k.next F.budgets_rising;
     object = add_objects x;
-    budget = match_add_first SameBudget (λ e. eqb e.kind 6 ≡ false) r.rows k.budgets F.budget r.next x no_entry no_budget h;
+    budget = match_add_first SameBudget (λ e. is_budget_kind e.kind ≡ false) r.rows k.budgets F.budget r.next x no_entry no_budget h;
   }
 
-  follow_add_budget : (x : Entry) (b : Budget) → eqb x.kind 6 ≡ true → Agrees x.account b
+  follow_add_budget : (x : Entry) (b : Budget) → is_budget_kind x.kind ≡ true → Agrees x.account b
       → FollowsRegistry (add x r) (book.add_object x.payer x.charge (book.add_budget b k))
   follow_add_budget x b h g = record {
     next = ap suc F.next;
     objects_rising = Table.rising_snoc k.objects 1 k.next (record { payer = x.payer; charge = x.charge }) F.objects_rising;
     budgets_rising = Table.rising_snoc k.budgets 1 k.next b F.budgets_rising;
     object = add_objects x;
-    budget = rw (← F.next) (match_add SameBudget (λ e. eqb e.kind 6 ≡ false) r.rows k.budgets F.budget r.next x b no_entry no_budget
+    budget = rw (← F.next) (match_add SameBudget (λ e. is_budget_kind e.kind ≡ false) r.rows k.budgets F.budget r.next x b no_entry no_budget
         (record { kind = h; account = g }));
   }
 
@@ -312,7 +314,7 @@ module _ (r : Registry) (k : Book) (F : FollowsRegistry r k) (up : Rising 1 r.ne
     objects_rising = Table.rising_erase k.objects 1 k.next i F.objects_rising;
     budgets_rising = Table.rising_erase k.budgets 1 k.next i F.budgets_rising;
     object = match_erase SameObject (λ e. ⊥) r.rows k.objects F.object i 1 r.next k.next up F.objects_rising;
-    budget = match_erase SameBudget (λ e. eqb e.kind 6 ≡ false) r.rows k.budgets F.budget i 1 r.next k.next up F.budgets_rising;
+    budget = match_erase SameBudget (λ e. is_budget_kind e.kind ≡ false) r.rows k.budgets F.budget i 1 r.next k.next up F.budgets_rising;
   }
 
 -- One call: what it leaves is followed by what the book writes.
@@ -320,7 +322,7 @@ module _ (r : Registry) (k : Book) (F : FollowsRegistry r k) (up : Rising 1 r.ne
 abbrev Written : Call → Book → RegistryReply → Type 0
 Written c k a = FollowsRegistry a.after (write c a.number k)
 
-plain_follows : (r : Registry) (k : Book) (kind payer n : ℕ) (e : Entry) → Sound r → FollowsRegistry r k → BudgetEntry r payer e → eqb kind 6 ≡ false
+plain_follows : (r : Registry) (k : Book) (kind : Kind) (payer n : ℕ) (e : Entry) → Sound r → FollowsRegistry r k → BudgetEntry r payer e → is_budget_kind kind ≡ false
     → FollowsRegistry (added r (λ a. account.charge a n) (plain kind payer n)) (book.add_object payer n (book.on_budget payer (book.charge n) k))
 plain_follows r k kind payer n e s F B other =
     follow_add (budget payer (λ a. account.charge a n) r) (book.on_budget payer (book.charge n) k)
@@ -332,14 +334,14 @@ pub renew_follows : (r : Registry) (k : Book) (i t : ℕ) (e : Entry) → Sound 
 renew_follows r k i t e s F B = follow_account r k F i e B (λ a. renew a t) (book.renew t) (λ b g. renew_agrees e.account b t (calls.budget_sound s B) g)
 
 -- the limits of an entry, budget or not, are those that the book reads
-limits_same : (r : Registry) (k : Book) → Sound r → FollowsRegistry r k → (i : ℕ) (e : Entry) → at r.rows i ≡ some e → SameLimits e.account (budget_of k i)
+limits_same : (r : Registry) (k : Book) → Sound r → FollowsRegistry r k → (i : ℕ) (e : Entry) → at r.rows i ≡ Some e → SameLimits e.account (budget_of k i)
 limits_same r k s F i e here = go (at k.budgets i) refl
   where
     go : (o : Option Budget) → at k.budgets i ≡ o → SameLimits e.account (budget_of k i)
-    go none q =
+    go None q =
         let p = (s.each i e here).plain (rw (here, q) at (F.budget i)) in
         rw (p, ap book.or_no_budget q) (record { cpu = refl; memory = refl })
-    go (some b) q =
+    go (Some b) q =
         let m : SameBudget e b = rw (here, q) at (F.budget i) in
         rw (ap book.or_no_budget q) (record { cpu = m.account.allowance; memory = m.account.limit })
 
@@ -350,12 +352,12 @@ module _ (r : Registry) (k : Book) (s : Sound r) (F : FollowsRegistry r k) where
   insert_follows : (kind payer n : ℕ) → Written (insert kind payer n) k (run (insert kind payer n) r)
   insert_follows kind payer n =
       calls.insert_cases (Written (insert kind payer n) k) kind payer n r (λ q h. rw h (test (eqb q 12) (λ a. rw a F) (λ a. rw a F)))
-      λ e B code other room covers. plain_follows r k kind payer n e s F B other
+      λ e B code other room covers. plain_follows r k (kind_of kind) payer n e s F B other
 
   create_follows : (kind payer : ℕ) (backing : Bool) → Written (create kind payer backing) k (run (create kind payer backing) r)
   create_follows kind payer backing =
       calls.create_cases (Written (create kind payer backing) k) kind payer backing r (λ q h. rw h (test (eqb q 12) (λ a. rw a F) (λ a. rw a F)))
-      λ e B code other room covers. plain_follows r k kind payer (bytes_of kind) e s F B other
+      λ e B code other room covers. plain_follows r k (kind_of kind) payer (bytes_of (kind_of kind)) e s F B other
 
   refill_follows : (i t : ℕ) → Written (refill i t) k (run (refill i t) r)
   refill_follows i t =
@@ -418,8 +420,8 @@ module _ (r : Registry) (k : Book) (s : Sound r) (F : FollowsRegistry r k) where
       let (o, there, m) = object_page r k F i e O.here in
       let low = (s.each i e O.here).lower not_root in
       let still = Table.at_erase_other r.rows i e.payer (λ q. omega arith) ∙ O.payer.here in
-      let live : is_live k i ≡ eqb e.kind 6 = live_same r k F i ∙ ap (λ (x : Entry). eqb x.kind 6) O.read in
-      let b = eqb e.kind 6 in
+      let live : is_live k i ≡ is_budget_kind e.kind = live_same r k F i ∙ ap (λ (x : Entry). is_budget_kind x.kind) O.read in
+      let b = is_budget_kind e.kind in
       let y_sound = calls.budget_sound s O.payer in
       let renewed = calls.renew_if_moves b y.account t y_sound in
       let within = limits_within r i e y s O not_root in

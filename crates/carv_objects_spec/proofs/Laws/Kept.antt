@@ -1,9 +1,8 @@
 -- Each call of the registry by its outcomes, and that each keeps a sound registry sound; for these, what soundness says of the entries that a call finds, as that a budget which
 -- pays for nothing can be returned to its payer (`removal_passes`). Assumes nothing.
-use Rattle.std.specs.Prelude.{◌≡◌, refl, Bool, true, false, cond, not, ◌&&◌, ◌||◌, List, [], ◌∷◌, ℕ, ◌+◌, ◌-◌, ◌≤◌, ◌<◌, min, eqb, leb, length}
+use Rattle.std.specs.Prelude.{◌≡◌, refl, Bool, true, false, cond, not, ◌&&◌, ◌||◌, List, [], ◌∷◌, ℕ, ◌+◌, ◌-◌, ◌≤◌, ◌<◌, min, eqb, leb, length, Option, Some, None}
 use Rattle.std.proofs.Common.{sym, ◌∙◌, ap, subst, arith, eqb-true, eq-eqb, ne_eqb, leb-true, le-leb, ltb-true}
-use Rattle.std.proofs.Math.Option.{Option, none, some}
-use Rattle.std.proofs.lemmas.Bool.{eqb-false, not-true}
+use Rattle.std.proofs.lemmas.Bool.{false≢true, eqb-false, not-true}
 use Rattle.carv_area.specs.Laws.Table
 use Rattle.carv_area.specs.Table.{Row, at}
 use Rattle.carv_area.specs.Laws.Table.{test}
@@ -12,10 +11,13 @@ use Rattle.carv_budget.specs.Account.{period, free, renew, due, spend, charge, c
 use Rattle.carv_budget.specs.Account as account
 use Rattle.carv_budget.proofs.Laws.Account as account_laws
 use Rattle.carv_budget.proofs.Laws.Account.{Returnable}
+use Rattle.carv_objects_spec.specs.declared.kind.Kind.{Kind}
+use Rattle.carv_objects_spec.specs.Kinds.{listed, kind_of, bytes_of, creatable, needs_backing, is_budget_kind}
+use Rattle.carv_objects_spec.proofs.Laws.Kinds.{kind_told, kind_shown, kind_apart}
 use Rattle.carv_objects_spec.specs.declared.Entry.{Entry}
 use Rattle.carv_objects_spec.specs.Reply.{refuse, accept, id, renewed}
 use Rattle.carv_objects_spec.proofs.Laws.Asked.{asked}
-use Rattle.carv_objects_spec.specs.Registry.{Registry, RegistryReply, or_missing, entry, has, is_budget, account_of, payer_of, pays_in, pays_for, budget, renew_if, listed, bytes_of, creatable, needs_backing, has_place, has_next, plain, carved, opening, create, insert, create_budget, charge_more, uncharge, remove, refill, charge_cpu, charge_most}
+use Rattle.carv_objects_spec.specs.Registry.{Registry, RegistryReply, or_missing, entry, has, is_budget, account_of, payer_of, pays_in, pays_for, budget, renew_if, has_place, has_next, plain, carved, opening, create, insert, create_budget, charge_more, uncharge, remove, refill, charge_cpu, charge_most}
 use Rattle.carv_objects_spec.specs.Question15.{Passed}
 use Rattle.carv_objects_spec.specs.Sound.{kind_at, charge_by, memory_by, cpu_by}
 use Rattle.carv_objects_spec.proofs.Laws.SoundFacts.{SoundEntry, Sound}
@@ -33,14 +35,14 @@ StaysBut n P r = (q : ℕ) → eqb q 0 ≡ false → eqb q n ≡ false → P (re
 -- Looking up.
 
 pub live_budget : (r : Registry) (i : ℕ) → is_budget r i ≡ true → (e : Entry) × BudgetEntry r i e
-live_budget r i h = budget_entry r i (eqb-true (entry r i).kind 6 h)
+live_budget r i h = budget_entry r i (kind_told (entry r i).kind h)
 
 pub live_object : (r : Registry) (i : ℕ) → Sound r → has r i ≡ true → (e : Entry) × (y : Entry) × ObjectEntry r i e y
 live_object r i s h = go (at r.rows i) refl
   where
     go : (o : Option Entry) → at r.rows i ≡ o → (e : Entry) × (y : Entry) × ObjectEntry r i e y
-    go none q = let z : false ≡ true = rw q at h in let b : ◌≡◌ {A = ℕ} 0 1 = cc in absurd (omega arith)
-    go (some e) q = let (y, B) = budget_entry r e.payer (s.each i e q).paid in (e, y, record { here = q; read = ap or_missing q; payer = B })
+    go None q = let z : false ≡ true = rw q at h in let b : ◌≡◌ {A = ℕ} 0 1 = cc in absurd (omega arith)
+    go (Some e) q = let (y, B) = budget_entry r e.payer (s.each i e q).paid in (e, y, record { here = q; read = ap or_missing q; payer = B })
 
 -- a live budget's account is sound
 pub budget_sound : {r : Registry} {i : ℕ} {e : Entry} → Sound r → BudgetEntry r i e → account.sound e.account ≡ true
@@ -73,7 +75,7 @@ abbrev pub carve : (cpu memory time : ℕ) → Account → Account
 carve cpu memory time a = reserve (charge (renew a time) 128) cpu memory
 
 abbrev pub release : Entry → (time : ℕ) → Account → Account
-release e time a = credit (return (renew_if (eqb e.kind 6) time a) e.account) e.charge
+release e time a = credit (return (renew_if (is_budget_kind e.kind) time a) e.account) e.charge
 
 renew_moves : (a : Account) (t : ℕ) → account.sound a ≡ true → AccountMoves (λ a. renew a t) a zeros zeros
 renew_moves a t h =
@@ -140,45 +142,44 @@ carve_moves a cpu memory t h c =
 -- The calls.
 
 pub insert_cases : (P : RegistryReply → Type 0) (kind payer n : ℕ) (r : Registry) → Stays P r
-    → ((e : Entry) → BudgetEntry r payer e → listed kind ≡ true → eqb kind 6 ≡ false → length r.rows < 512 → n ≤ free e.account
-    → P (accept (some (id r.next)) (added r (λ a. charge a n) (plain kind payer n))))
+    → ((e : Entry) → BudgetEntry r payer e → listed kind ≡ true → is_budget_kind (kind_of kind) ≡ false → length r.rows < 512 → n ≤ free e.account
+    → P (accept (Some (id r.next)) (added r (λ a. charge a n) (plain (kind_of kind) payer n))))
     → P (insert kind payer n r)
 insert_cases P kind payer n r stay go =
     asked P (listed kind) (stay 4 refl) λ a.
-    asked P (not (eqb kind 6)) (stay 4 refl) λ b.
+    asked P (not (is_budget_kind (kind_of kind))) (stay 4 refl) λ b.
     asked P (has_place r) (stay 6 refl) λ c.
     asked P (has_next r) (stay 6 refl) λ d.
     asked P (is_budget r payer) (stay 7 refl) λ f.
     asked P (leb n (free (account_of r payer))) (stay 12 refl) λ g.
     let (e, B) = live_budget r payer f in
-    go e B a (not-true (eqb kind 6) b) (ltb-true (length r.rows) 512 c) (leb-true n (free e.account) (rw (B.read, account_of) at g))
+    go e B a (not-true (is_budget_kind (kind_of kind)) b) (ltb-true (length r.rows) 512 c) (leb-true n (free e.account) (rw (B.read, account_of) at g))
 
-creatable_kind : (k : ℕ) → creatable k ≡ true → eqb k 6 ≡ false
-creatable_kind k h = test (eqb k 6) (λ a. let z : false ≡ true = rw (eqb-true k 6 a) at h in cc) (λ a. a)
+creatable_kind : (k : Kind) → creatable k ≡ true → is_budget_kind k ≡ false
+creatable_kind k h = test (is_budget_kind k) (λ a. let z : false ≡ true = rw (kind_told k a) at h in absurd (false≢true z)) (λ a. a)
 
 pub create_cases : (P : RegistryReply → Type 0) (kind payer : ℕ) (backing : Bool) (r : Registry) → Stays P r
-    → ((e : Entry) → BudgetEntry r payer e → listed kind ≡ true → eqb kind 6 ≡ false → length r.rows < 512 → bytes_of kind ≤ free e.account
-    → P (accept (some (id r.next)) (added r (λ a. charge a (bytes_of kind)) (plain kind payer (bytes_of kind)))))
+    → ((e : Entry) → BudgetEntry r payer e → listed kind ≡ true → is_budget_kind (kind_of kind) ≡ false → length r.rows < 512 → bytes_of (kind_of kind) ≤ free e.account
+    → P (accept (Some (id r.next)) (added r (λ a. charge a (bytes_of (kind_of kind))) (plain (kind_of kind) payer (bytes_of (kind_of kind))))))
     → P (create kind payer backing r)
 create_cases P kind payer backing r stay go =
     asked P (listed kind) (stay 4 refl) λ a.
     asked P (has_place r) (stay 6 refl) λ c.
     asked P (has_next r) (stay 6 refl) λ d.
     asked P (is_budget r payer) (stay 7 refl) λ f.
-    asked P (leb (bytes_of kind) (free (account_of r payer))) (stay 12 refl) λ g.
-    asked P (creatable kind) (stay 13 refl) λ h.
-    asked P (not (needs_backing kind) || backing) (stay 14 refl) λ i.
+    asked P (leb (bytes_of (kind_of kind)) (free (account_of r payer))) (stay 12 refl) λ g.
+    asked P (creatable (kind_of kind)) (stay 13 refl) λ h.
+    asked P (not (needs_backing (kind_of kind)) || backing) (stay 14 refl) λ i.
     let (e, B) = live_budget r payer f in
-    go e B a (creatable_kind kind h) (ltb-true (length r.rows) 512 c) (leb-true (bytes_of kind) (free e.account) (rw (B.read, account_of) at g))
+    go e B a (creatable_kind (kind_of kind) h) (ltb-true (length r.rows) 512 c) (leb-true (bytes_of (kind_of kind)) (free e.account) (rw (B.read, account_of) at g))
 
 -- an entry that is no budget, which its payer can cover
-plain_kept : (r : Registry) (kind payer n : ℕ) (e : Entry) → Sound r → BudgetEntry r payer e → listed kind ≡ true → eqb kind 6 ≡ false
+plain_kept : (r : Registry) (kind : Kind) (payer n : ℕ) (e : Entry) → Sound r → BudgetEntry r payer e → is_budget_kind kind ≡ false
     → length r.rows < 512 → n ≤ free e.account → Sound (added r (λ a. charge a n) (plain kind payer n))
-plain_kept r kind payer n e s B code other few covers =
+plain_kept r kind payer n e s B other few covers =
     add_step r e (λ a. charge a n) (plain kind payer n) s B (charge_moves e.account 0 n n (omega arith) (budget_sound s B) covers)
     (record {
       few = few;
-      code = code;
       plain = λ h. refl;
       used = refl;
       memory_reserved = refl;
@@ -187,11 +188,11 @@ plain_kept r kind payer n e s B code other few covers =
     })
 
 pub insert_kept : (kind payer n : ℕ) (r : Registry) → Sound r → Sound (insert kind payer n r).after
-insert_kept kind payer n r s = insert_cases (λ a. Sound a.after) kind payer n r (λ q h. s) λ e B. plain_kept r kind payer n e s B
+insert_kept kind payer n r s = insert_cases (λ a. Sound a.after) kind payer n r (λ q h. s) λ e B code. plain_kept r (kind_of kind) payer n e s B
 
 pub create_kept : (kind payer : ℕ) (backing : Bool) (r : Registry) → Sound r → Sound (create kind payer backing r).after
 create_kept kind payer backing r s =
-    create_cases (λ a. Sound a.after) kind payer backing r (λ q h. s) λ e B. plain_kept r kind payer (bytes_of kind) e s B
+    create_cases (λ a. Sound a.after) kind payer backing r (λ q h. s) λ e B code. plain_kept r (kind_of kind) payer (bytes_of (kind_of kind)) e s B
 
 pub renew_kept : (r : Registry) (i t : ℕ) (e : Entry) → Sound r → BudgetEntry r i e → Sound (budget i (λ a. renew a t) r)
 renew_kept r i t e s B = account_step r i e (λ a. renew a t) s B (renew_moves e.account t (budget_sound s B))
@@ -200,7 +201,7 @@ pub spend_kept : (r : Registry) (i t : ℕ) (e : Entry) (ns : Account → ℕ) �
 spend_kept r i t e ns s B = account_step r i e (λ a. spend (renew a t) (ns a)) s B (spend_moves e.account ns t (budget_sound s B))
 
 pub refill_cases : (P : RegistryReply → Type 0) (i t : ℕ) (r : Registry) → Stays P r
-    → ((e : Entry) → BudgetEntry r i e → P (accept (some (renewed (due e.account t))) (budget i (λ a. renew a t) r)))
+    → ((e : Entry) → BudgetEntry r i e → P (accept (Some (renewed (due e.account t))) (budget i (λ a. renew a t) r)))
     → P (refill i t r)
 refill_cases P i t r stay go =
     asked P (is_budget r i) (stay 7 refl) λ a.
@@ -212,7 +213,7 @@ refill_kept i t r s = refill_cases (λ a. Sound a.after) i t r (λ q h. s) λ e 
 
 pub charge_cpu_cases : (P : RegistryReply → Type 0) (i ns t : ℕ) (r : Registry) → StaysBut 12 P r
     → ((e : Entry) → BudgetEntry r i e → P (refuse 12 (budget i (λ a. renew a t) r)))
-    → ((e : Entry) → BudgetEntry r i e → ns ≤ (renew e.account t).cpu_left → P (accept none (budget i (λ a. spend (renew a t) ns) r)))
+    → ((e : Entry) → BudgetEntry r i e → ns ≤ (renew e.account t).cpu_left → P (accept None (budget i (λ a. spend (renew a t) ns) r)))
     → P (charge_cpu i ns t r)
 charge_cpu_cases P i ns t r stay renews go =
     asked P (is_budget r i) (stay 7 refl refl) λ a.
@@ -234,7 +235,7 @@ pub create_budget_cases : (P : RegistryReply → Type 0) (parent cpu memory t : 
     → ((e : Entry) → BudgetEntry r parent e → leb 128 (free e.account) ≡ false → P (refuse 12 r))
     → ((e : Entry) → BudgetEntry r parent e → leb 128 (free e.account) ≡ true → P (refuse 12 (budget parent (λ a. renew a t) r)))
     → ((e : Entry) → BudgetEntry r parent e → length r.rows < 512 → Carves e.account cpu memory t
-    → P (accept (some (id r.next)) (added r (carve cpu memory t) (carved parent cpu memory (renew e.account t)))))
+    → P (accept (Some (id r.next)) (added r (carve cpu memory t) (carved parent cpu memory (renew e.account t)))))
     → P (create_budget parent cpu memory t r)
 create_budget_cases P parent cpu memory t r stay poor renews go =
     asked P (has_place r) (stay 6 refl refl) λ a.
@@ -244,7 +245,7 @@ create_budget_cases P parent cpu memory t r stay poor renews go =
     subst (λ (x : Entry). P (cond (leb 128 (free x.account))
     (cond (leb cpu (renew x.account t).cpu_left)
     (cond (leb memory (free (charge x.account 128)))
-    (accept (some (id r.next)) (added r (carve cpu memory t) (carved parent cpu memory (renew x.account t))))
+    (accept (Some (id r.next)) (added r (carve cpu memory t) (carved parent cpu memory (renew x.account t))))
     (refuse 12 (budget parent (λ a. renew a t) r)))
     (refuse 12 (budget parent (λ a. renew a t) r)))
     (refuse 12 r))) (sym B.read)
@@ -265,7 +266,6 @@ create_budget_kept parent cpu memory t r s =
     add_step r e (carve cpu memory t) (carved parent cpu memory (renew e.account t)) s B (carve_moves e.account cpu memory t (budget_sound s B) C)
     (record {
       few = few;
-      code = refl;
       plain = λ h. (let z : true ≡ false = h in cc);
       used = refl;
       memory_reserved = refl;
@@ -275,7 +275,7 @@ create_budget_kept parent cpu memory t r s =
     })
 
 pub charge_more_cases : (P : RegistryReply → Type 0) (i n : ℕ) (r : Registry) → Sound r → Stays P r
-    → ((e y : Entry) → ObjectEntry r i e y → n ≤ free y.account → P (accept none (charged r i e (λ a. charge a n) (λ c. c + n))))
+    → ((e y : Entry) → ObjectEntry r i e y → n ≤ free y.account → P (accept None (charged r i e (λ a. charge a n) (λ c. c + n))))
     → P (charge_more i n r)
 charge_more_cases P i n r s stay go =
     asked P (has r i) (stay 7 refl) λ a.
@@ -290,7 +290,7 @@ charge_more_kept i n r s =
     charge_step r i e y (λ a. charge a n) (λ c. c + n) s O (charge_moves y.account e.charge (e.charge + n) n refl (budget_sound s O.payer) covers)
 
 pub uncharge_cases : (P : RegistryReply → Type 0) (i n : ℕ) (r : Registry) → Sound r → Stays P r
-    → ((e y : Entry) → ObjectEntry r i e y → n ≤ e.charge → P (accept none (charged r i e (λ a. credit a n) (λ c. c - n))))
+    → ((e y : Entry) → ObjectEntry r i e y → n ≤ e.charge → P (accept None (charged r i e (λ a. credit a n) (λ c. c - n))))
     → P (uncharge i n r)
 uncharge_cases P i n r s stay go =
     asked P (has r i) (stay 7 refl) λ a.
@@ -314,10 +314,10 @@ uncharge_kept i n r s =
 -- Removal.
 
 -- an id that `pays_for` denies is no other entry's payer
-not_paying : (m : List (Row Entry)) (i : ℕ) → pays_in m i ≡ false → (j : ℕ) (d : Entry) → (i ≡ j → ⊥) → at m j ≡ some d → i ≡ d.payer → ⊥
+not_paying : (m : List (Row Entry)) (i : ℕ) → pays_in m i ≡ false → (j : ℕ) (d : Entry) → (i ≡ j → ⊥) → at m j ≡ Some d → i ≡ d.payer → ⊥
 not_paying [] i h j d apart at_j q = let z : ◌≡◌ {A = ℕ} 0 1 = cc in omega arith
 not_paying (r ∷ m) i h j d apart at_j q = test (eqb r.id j)
-    (λ a. let at_j' : some r.it ≡ some d = rw a at at_j in let x : r.it ≡ d = cc in
+    (λ a. let at_j' : Some r.it ≡ Some d = rw a at at_j in let x : r.it ≡ d = cc in
     let off = ne_eqb r.id i (λ p. apart (sym p ∙ eqb-true r.id j a)) in
     let on = eq-eqb r.it.payer i (ap (λ (k : Entry). k.payer) x ∙ sym q) in
     let z : true ≡ false = rw (off, on) at h in let y : ◌≡◌ {A = ℕ} 0 1 = cc in omega arith)
@@ -333,7 +333,7 @@ unpaid r i s not_root h j d at_j q = test (is_budget r i)
     (λ a. test (eqb i j)
     (λ b. let e = eqb-true i j b in let low = (s.each j d at_j).lower (λ z. not_root (e ∙ z)) in omega arith)
     (λ b. not_paying r.rows i (rw a at h) j d (eqb-false i j b) at_j q))
-    (λ a. eqb-false (kind_at r.rows i) 6 a (rw q (s.each j d at_j).paid))
+    (λ a. kind_apart (kind_at r.rows i) a (rw q (s.each j d at_j).paid))
 
 -- a budget that is no entry's payer can be returned
 unpaid_returnable : (r : Registry) (i : ℕ) (e y : Entry) → Sound r → ObjectEntry r i e y → (i ≡ 1 → ⊥) → Unpaid r i → Returnable y.account e.account
@@ -365,7 +365,7 @@ removal_passes i r s a not_root idle =
     (subst (λ (x : Entry). Returnable y.account x.account) (sym O.read) (unpaid_returnable r i e y s O not_root (unpaid r i s not_root idle))) in
     record {
       payer_live = rw (payer, O.payer.here);
-      payer_budget = eq-eqb (entry r (payer_of r i)).kind 6 (ap (λ (x : Entry). x.kind) read ∙ O.payer.kind);
+      payer_budget = kind_shown (entry r (payer_of r i)).kind (ap (λ (x : Entry). x.kind) read ∙ O.payer.kind);
       payer_other = λ q. omega (arith, payer, q);
       passed = test (is_budget r i) (λ b. rw (b, returnable_shown returns)) (λ b. rw b);
       no_use = λ _. returns.no_use;
@@ -381,7 +381,7 @@ removal_returnable r i s a not_root b d = rw b at (removal_passes i r s a not_ro
 
 -- `remove` goes through, or is refused with 7, 9 or 10
 pub remove_cases : (P : RegistryReply → Type 0) (i t : ℕ) (r : Registry) → Sound r → Stays P r
-    → ((e y : Entry) → ObjectEntry r i e y → (i ≡ 1 → ⊥) → Unpaid r i → P (accept none (removed r i e (release e t))))
+    → ((e y : Entry) → ObjectEntry r i e y → (i ≡ 1 → ⊥) → Unpaid r i → P (accept None (removed r i e (release e t))))
     → P (remove i t r)
 remove_cases P i t r s stay go =
     asked P (has r i) (stay 7 refl) λ a.
@@ -390,22 +390,22 @@ remove_cases P i t r s stay go =
     let not_root = eqb-false i 1 (not-true (eqb i 1) b) in
     let idle = not-true (is_budget r i && pays_for r i) c in
     let (e, y, O) = live_object r i s a in
-    subst (λ (x : Entry). P (accept none (removed r i x (release x t)))) (sym O.read) (go e y O not_root (unpaid r i s not_root idle))
+    subst (λ (x : Entry). P (accept None (removed r i x (release x t)))) (sym O.read) (go e y O not_root (unpaid r i s not_root idle))
 
 pub remove_kept : (i t : ℕ) (r : Registry) → Sound r → Sound (remove i t r).after
 remove_kept i t r s =
     remove_cases (λ a. Sound a.after) i t r s (λ q h. s) λ e y O not_root u.
     let k = charge_within r i e y s O in
     let w = limits_within r i e y s O not_root in
-    let m = renew_if_moves (eqb e.kind 6) y.account t (budget_sound s O.payer) in
+    let m = renew_if_moves (is_budget_kind e.kind) y.account t (budget_sound s O.payer) in
     remove_step r i e y (release e t) s O not_root u (record {
       allowance = m.allowance;
       limit = m.limit;
       used = omega (arith, m.used);
       memory_reserved = omega (arith, m.memory_reserved);
       cpu_reserved = omega (arith, m.cpu_reserved);
-      sound = account_laws.credit_sound (return (renew_if (eqb e.kind 6) t y.account) e.account) e.charge
-          (account_laws.return_sound (renew_if (eqb e.kind 6) t y.account) e.account m.sound);
+      sound = account_laws.credit_sound (return (renew_if (is_budget_kind e.kind) t y.account) e.account) e.charge
+          (account_laws.return_sound (renew_if (is_budget_kind e.kind) t y.account) e.account m.sound);
     })
 
 pub opening_sound : (cpu memory : ℕ) → cpu ≤ period → Sound (opening cpu memory)
@@ -417,7 +417,6 @@ opening_sound cpu memory h =
       root = refl;
       each = Table.at_all (SoundEntry r.rows) r.rows (
         record {
-          code = refl;
           plain = λ q. (let z : true ≡ false = q in cc);
           root = λ q. (refl, refl);
           lower = λ q. absurd (q refl);

@@ -1,8 +1,6 @@
 -- P3 for the registry's calls: beside the invariant, the ledger has every live budget, with its payer and its allowance. Assumes nothing.
-use Rattle.std.specs.Prelude.{◌≡◌, refl, true, false, List, [], ◌∷◌, ℕ, ◌+◌, ◌-◌, ◌≤◌, ◌<◌, min, eqb}
+use Rattle.std.specs.Prelude.{◌≡◌, refl, true, false, List, [], ◌∷◌, ℕ, ◌+◌, ◌-◌, ◌≤◌, ◌<◌, min, eqb, Some, None}
 use Rattle.std.proofs.Common.{sym, ◌∙◌, arith, eq-eqb, ne_eqb}
-use Rattle.std.proofs.Math.Option.{none, some}
-use Rattle.std.proofs.lemmas.Bool.{eqb-false}
 use Rattle.carv_area.specs.Laws.Table
 use Rattle.carv_area.specs.Table.{Row, at}
 use Rattle.carv_area.specs.Laws.Table.{All, test}
@@ -10,10 +8,14 @@ use Rattle.carv_budget.specs.declared.Account.{Account}
 use Rattle.carv_budget.specs.Account as account
 use Rattle.carv_budget.specs.Account.{renew, spend}
 use Rattle.carv_budget.proofs.Laws.Account as account_laws
+use Rattle.carv_objects_spec.specs.declared.kind.Kind.{Kind}
+use Rattle.carv_objects_spec.specs.declared.kind.Kind.TheVariants.{Budget}
+use Rattle.carv_objects_spec.specs.Kinds.{kind_of, bytes_of, is_budget_kind}
+use Rattle.carv_objects_spec.proofs.Laws.Kinds.{kind_apart}
 use Rattle.carv_objects_spec.specs.declared.Entry.{Entry}
 use Rattle.carv_objects_spec.proofs.Laws.Asked.{asked}
 use Rattle.carv_objects_spec.specs.Registry as registry
-use Rattle.carv_objects_spec.specs.Registry.{Registry, RegistryReply, is_budget, has, account_of, on_account, on_charge, budget, plain, carved, bytes_of, charge_most}
+use Rattle.carv_objects_spec.specs.Registry.{Registry, RegistryReply, is_budget, has, account_of, on_account, on_charge, budget, plain, carved, charge_most}
 use Rattle.carv_objects_spec.proofs.Laws.SoundFacts.{Sound}
 use Rattle.carv_objects_spec.proofs.Laws.Steps.{BudgetEntry, ObjectEntry, at_on_account, added, charged, removed}
 use Rattle.carv_objects_spec.proofs.Laws.Kept as calls
@@ -30,21 +32,21 @@ abbrev pub row_of : Entry → Carved
 row_of e = record { parent = e.payer; allowance = e.account.cpu_allowance }
 
 abbrev pub Listed : Registry → List (Row Carved) → Type 0
-Listed r m = (i : ℕ) (e : Entry) → at r.rows i ≡ some e → e.kind ≡ 6 → at m i ≡ some (row_of e)
+Listed r m = (i : ℕ) (e : Entry) → at r.rows i ≡ Some e → e.kind ≡ Budget → at m i ≡ Some (row_of e)
 
-alter_listed : (r : Registry) (m : List (Row Carved)) (i : ℕ) (y : Entry) (g : Entry → Entry) → at r.rows i ≡ some y → KeepsShare g → Listed r m → Listed (altered i g r) m
+alter_listed : (r : Registry) (m : List (Row Carved)) (i : ℕ) (y : Entry) (g : Entry → Entry) → at r.rows i ≡ Some y → KeepsShare g → Listed r m → Listed (altered i g r) m
 alter_listed r m i y g here k L =
-    alter_at r i y g here k (λ j d. d.kind ≡ 6 → at m j ≡ some (row_of d))
+    alter_at r i y g here k (λ j d. d.kind ≡ Budget → at m j ≡ Some (row_of d))
     (λ q. rw (k.payer y, k.allowance y) (L i y here (sym (k.kind y) ∙ q)))
     (λ j d apart h. L j d h)
 
 -- an entry that is no budget is added
-plain_listed : (r : Registry) (m : List (Row Carved)) (kind payer n : ℕ) (e : Entry) → Sound r → BudgetEntry r payer e → eqb kind 6 ≡ false → Listed r m
+plain_listed : (r : Registry) (m : List (Row Carved)) (kind : Kind) (payer n : ℕ) (e : Entry) → Sound r → BudgetEntry r payer e → is_budget_kind kind ≡ false → Listed r m
     → Listed (added r (λ a. account.charge a n) (plain kind payer n)) m
 plain_listed r m kind payer n e s B other L =
     let f : Account → Account = λ a. account.charge a n in
-    add_at (budget payer f r) (plain kind payer n) (Table.rising_alter r.rows 1 r.next payer (on_account f) s.rising) (λ j d. d.kind ≡ 6 → at m j ≡ some (row_of d))
-    (λ q. absurd (eqb-false kind 6 other q)) (alter_listed r m payer e (on_account f) B.here (keeps_account f (λ a. refl)) L)
+    add_at (budget payer f r) (plain kind payer n) (Table.rising_alter r.rows 1 r.next payer (on_account f) s.rising) (λ j d. d.kind ≡ Budget → at m j ≡ Some (row_of d))
+    (λ q. absurd (kind_apart kind other q)) (alter_listed r m payer e (on_account f) B.here (keeps_account f (λ a. refl)) L)
 
 -- a budget is added
 carve_listed : (r : Registry) (m : List (Row Carved)) (parent cpu memory t : ℕ) (e : Entry) → Sound r → BudgetEntry r parent e → Listed r m
@@ -54,11 +56,11 @@ carve_listed r m parent cpu memory t e s B L =
     let L₁ = alter_listed r m parent e (on_account f) B.here (keeps_account f (λ a. (account_laws.renewal a t).cpu_allowance)) L in
     let up = Table.rising_alter r.rows 1 r.next parent (on_account f) s.rising in
     add_at (budget parent f r) (carved parent cpu memory (renew e.account t)) up
-    (λ j d. d.kind ≡ 6 → at (record { id = r.next; it = record { parent = parent; allowance = cpu } } ∷ m) j ≡ some (row_of d))
+    (λ j d. d.kind ≡ Budget → at (record { id = r.next; it = record { parent = parent; allowance = cpu } } ∷ m) j ≡ Some (row_of d))
     (λ q. rw (eq-eqb r.next r.next refl))
     (λ j d h q. rw (ne_eqb r.next j (λ z. absurd_at (budget parent f r).rows j d (rw z at (Table.at_above (budget parent f r).rows 1 r.next r.next up (omega arith))) h)) (L₁ j d h q))
   where
-    absurd_at : (rows : List (Row Entry)) (j : ℕ) (d : Entry) → at rows j ≡ none → at rows j ≡ some d → ⊥
+    absurd_at : (rows : List (Row Entry)) (j : ℕ) (d : Entry) → at rows j ≡ None → at rows j ≡ Some d → ⊥
     absurd_at rows j d h k = let z : ◌≡◌ {A = ℕ} 0 1 = cc in omega arith
 
 -- the charge of an entry and its payer's account
@@ -94,9 +96,9 @@ Lists c r l a = Listed a.after (note c a.number r.next l).budgets
 call_listed : (c : Call) (r : Registry) (l : Ledger) → Sound r → Listed r l.budgets → Listed (run c r).after (note c (run c r).number r.next l).budgets
 call_listed (create kind payer backing) r l s L =
     calls.create_cases (Lists (create kind payer backing) r l) kind payer backing r (λ q h. rw h L)
-    λ e B code other room covers. plain_listed r l.budgets kind payer (bytes_of kind) e s B other L
+    λ e B code other room covers. plain_listed r l.budgets (kind_of kind) payer (bytes_of (kind_of kind)) e s B other L
 call_listed (insert kind payer n) r l s L =
-    calls.insert_cases (Lists (insert kind payer n) r l) kind payer n r (λ q h. rw h L) λ e B code other room covers. plain_listed r l.budgets kind payer n e s B other L
+    calls.insert_cases (Lists (insert kind payer n) r l) kind payer n r (λ q h. rw h L) λ e B code other room covers. plain_listed r l.budgets (kind_of kind) payer n e s B other L
 call_listed (create_budget parent cpu memory t) r l s L =
     calls.create_budget_cases (Lists (create_budget parent cpu memory t) r l) parent cpu memory t r (λ q h k. rw h L) (λ e B poor. L)
     (λ e B rich. renew_listed r l.budgets parent t e B L) λ e B room C. carve_listed r l.budgets parent cpu memory t e s B L
@@ -124,7 +126,7 @@ charge_most_listed r m i ns t L = test (is_budget r i)
 
 opening_listed : (cpu memory : ℕ) → Listed (registry.opening cpu memory) (ledger.opening cpu).budgets
 opening_listed cpu memory =
-    Table.at_all (λ i e. e.kind ≡ 6 → at (ledger.opening cpu).budgets i ≡ some (row_of e)) (registry.opening cpu memory).rows (λ q. refl, tt)
+    Table.at_all (λ i e. e.kind ≡ Budget → at (ledger.opening cpu).budgets i ≡ Some (row_of e)) (registry.opening cpu memory).rows (λ q. refl, tt)
 
 -- The latest budget stands first.
 

@@ -1,15 +1,14 @@
 -- The ledger notes what the book takes: each call takes from a budget's CPU time what it notes as charged to that budget, and what it carves out of it, and nothing else; and it
 -- strikes nothing out. Assumes nothing.
-use Rattle.std.specs.Prelude.{◌≡◌, refl, Bool, true, false, cond, List, [], ◌∷◌, ◌++◌, ℕ, ◌+◌, ◌-◌, ◌%◌, ◌≤◌, ◌<◌, eqb, leb}
+use Rattle.std.specs.Prelude.{◌≡◌, refl, Bool, true, false, cond, List, [], ◌∷◌, ◌++◌, ℕ, ◌+◌, ◌-◌, ◌%◌, ◌≤◌, ◌<◌, eqb, leb, Option, Some, None}
 use Rattle.std.proofs.Common.{sym, ◌∙◌, ap, subst, arith, eqb-true, eq-eqb, ne_eqb, leb-true}
-use Rattle.std.proofs.Math.Option.{Option, none, some}
 use Rattle.std.proofs.lemmas.Bool.{eqb-false}
 use Rattle.carv_area.specs.Table.{Row, at, alter, erase, Rising}
 use Rattle.carv_area.specs.Laws.Table
 use Rattle.carv_area.specs.Laws.Table.{test}
 use Rattle.carv_budget.specs.Account.{period}
 use Rattle.carv_budget.proofs.Laws.Account.{first, second}
-use Rattle.carv_objects_spec.specs.Registry.{bytes_of}
+use Rattle.carv_objects_spec.specs.Kinds.{kind_of, bytes_of}
 use Rattle.carv_objects_spec.specs.Book.{Book, Budget, Call, create, insert, create_budget, charge_more, uncharge, remove, refill, charge_cpu, pays_for_anything, read_account, charge_of, read_totals, object_of, budget_of, is_live, new_budget, due, renew, renew_if, take_cpu, carve, charge, credit, return, free, on_budget, remove_object, write, accepted, refused_12}
 use Rattle.carv_objects_spec.specs.Ledger as ledger
 use Rattle.carv_objects_spec.specs.Ledger.{Charge, Ledger, note_charge, note, clock}
@@ -67,14 +66,14 @@ nothing_booked x y c R = record { later = R.later; taken = omega (arith, R.taken
 
 -- Tables.
 
-pub altered_row : {A : Type 0} (m : List (Row A)) (j i : ℕ) (f : A → A) (x y : A) → at m i ≡ some x → at (alter j f m) i ≡ some y → cond (eqb j i) (f x) x ≡ y
+pub altered_row : {A : Type 0} (m : List (Row A)) (j i : ℕ) (f : A → A) (x y : A) → at m i ≡ Some x → at (alter j f m) i ≡ Some y → cond (eqb j i) (f x) x ≡ y
 altered_row m j i f x y h k = test (eqb j i)
     (λ a. let e = eqb-true j i a in
-    let z : at (alter j f m) i ≡ some (f x) = rw e (Table.at_alter m i f x h) in
+    let z : at (alter j f m) i ≡ Some (f x) = rw e (Table.at_alter m i f x h) in
     rw a (some_same (f x) y (sym z ∙ k)))
     (λ a. rw a (some_same x y (sym h ∙ sym (Table.at_alter_other m j i f (eqb-false j i a)) ∙ k)))
   where
-    some_same : {A : Type 0} (a b : A) → some a ≡ some b → a ≡ b
+    some_same : {A : Type 0} (a b : A) → Some a ≡ Some b → a ≡ b
     some_same a b h = cc
 
 -- Each call.
@@ -100,31 +99,31 @@ module _ (k : Book) (i : ℕ) (c : ℕ) where
       (λ a. let z' : x ≡ y = rw a at z in let q' : d ≡ 0 + c = rw a at q in rw (← z') (booked x x x 0 0 c d q' (renews_not x) refl (omega arith) (omega arith)))
 
 -- a budget that is live before and after a row is added behind the others
-behind : (m : List (Row Budget)) (n i : ℕ) (b x : Budget) → at m i ≡ some x → at (m ++ (record { id = n; it = b } ∷ [])) i ≡ at m i
+behind : (m : List (Row Budget)) (n i : ℕ) (b x : Budget) → at m i ≡ Some x → at (m ++ (record { id = n; it = b } ∷ [])) i ≡ at m i
 behind [] n i b x h = let z : ◌≡◌ {A = ℕ} 0 1 = cc in absurd (omega arith)
 behind (r ∷ m) n i b x h = test (eqb r.id i) (λ a. rw a) (λ a. rw a (behind m n i b x (rw a at h)))
 
 -- an alteration finds what is there
-missing_still : (m : List (Row Budget)) (j i : ℕ) (f : Budget → Budget) → at m i ≡ none → at (alter j f m) i ≡ none
+missing_still : (m : List (Row Budget)) (j i : ℕ) (f : Budget → Budget) → at m i ≡ None → at (alter j f m) i ≡ None
 missing_still m j i f h = test (eqb j i)
     (λ a. rw (eqb-true j i a) (alter_missing m i f h))
     (λ a. Table.at_alter_other m j i f (eqb-false j i a) ∙ h)
   where
-    alter_missing : (m : List (Row Budget)) (i : ℕ) (f : Budget → Budget) → at m i ≡ none → at (alter i f m) i ≡ none
+    alter_missing : (m : List (Row Budget)) (i : ℕ) (f : Budget → Budget) → at m i ≡ None → at (alter i f m) i ≡ None
     alter_missing [] i f h = refl
     alter_missing (r ∷ m) i f h = test (eqb r.id i)
-        (λ a. let z : some r.it ≡ none = rw a at h in let w : ◌≡◌ {A = ℕ} 0 1 = cc in absurd (omega arith))
+        (λ a. let z : Some r.it ≡ None = rw a at h in let w : ◌≡◌ {A = ℕ} 0 1 = cc in absurd (omega arith))
         (λ a. rw (a, a) (alter_missing m i f (rw a at h)))
 
 accepted_noted : (c : Call) (k : Book) (l : Ledger) (i : ℕ) → Rising 1 k.next k.budgets
     → Accounted k (accepted c k) (charged_to l.charges i) (charged_to (ledger.accepted c k.next l).charges i) i
 accepted_noted (create kind payer backing) k l i up =
-    changed k i _ payer (charge (bytes_of kind)) (accepted (create kind payer backing) k) refl (λ x. renews_so x x (charge (bytes_of kind) x) (renews_not x) refl refl refl)
+    changed k i _ payer (charge (bytes_of (kind_of kind))) (accepted (create kind payer backing) k) refl (λ x. renews_so x x (charge (bytes_of (kind_of kind)) x) (renews_not x) refl refl refl)
 accepted_noted (insert kind payer bytes) k l i up =
     changed k i _ payer (charge bytes) (accepted (insert kind payer bytes) k) refl (λ x. renews_so x x (charge bytes x) (renews_not x) refl refl refl)
 accepted_noted (create_budget parent cpu memory time) k l i up = λ x y h g.
     let f : Budget → Budget = λ b. carve cpu memory (charge 128 (renew time b)) in
-    let there : at (alter parent f k.budgets) i ≡ some y =
+    let there : at (alter parent f k.budgets) i ≡ Some y =
     test (eqb parent i)
     (λ a. let s = Table.at_alter k.budgets i f x h in
     sym (behind (alter parent f k.budgets) k.next i (new_budget cpu memory (renew time (budget_of k parent)).start) (f x) (rw (eqb-true parent i a) s)) ∙ g)
@@ -139,10 +138,10 @@ accepted_noted (uncharge j bytes) k l i up =
     changed k i _ (object_of k j).payer (credit bytes) (accepted (uncharge j bytes) k) refl (λ x. renews_so x x (credit bytes x) (renews_not x) refl refl refl)
 accepted_noted (remove j time) k l i up = λ x y h g. test (eqb j i)
     (λ a. let q = eqb-true j i a in
-    let gone : at (alter (object_of k j).payer f (erase j k.budgets)) i ≡ none =
+    let gone : at (alter (object_of k j).payer f (erase j k.budgets)) i ≡ None =
     missing_still (erase j k.budgets) (object_of k j).payer i f (rw (← q) (Table.at_erase k.budgets 1 k.next j up)) in
     let z : ◌≡◌ {A = ℕ} 0 1 = cc in absurd (omega arith))
-    (λ a. let still : at (remove_object j k).budgets i ≡ some x = Table.at_erase_other k.budgets j i (eqb-false j i a) ∙ h in
+    (λ a. let still : at (remove_object j k).budgets i ≡ Some x = Table.at_erase_other k.budgets j i (eqb-false j i a) ∙ h in
     changed (remove_object j k) i (charged_to l.charges i) (object_of k j).payer f (accepted (remove j time) k) refl
     (λ b. renews_so b (renew_if (is_live k j) time b) (f b) (renews_if (is_live k j) time b) refl refl refl) x y still g)
   where
@@ -181,33 +180,33 @@ call_noted c n k l i up = test (eqb n 0)
 -- Nothing is struck out.
 
 -- each of these charges is of this time
-pub timed_each : (time : Option ℕ) (xs front rest : List Charge) (x : Charge) → Timed time xs → xs ≡ front ++ (x ∷ rest) → time ≡ some x.time
+pub timed_each : (time : Option ℕ) (xs front rest : List Charge) (x : Charge) → Timed time xs → xs ≡ front ++ (x ∷ rest) → time ≡ Some x.time
 timed_each time xs front rest x T q = each front (subst (Timed time) q T)
   where
-    each : (front : List Charge) → Timed time (front ++ (x ∷ rest)) → time ≡ some x.time
+    each : (front : List Charge) → Timed time (front ++ (x ∷ rest)) → time ≡ Some x.time
     each [] T = T.0
     each (y ∷ front) T = each front T.1
 
 pub adds_nothing : (time : Option ℕ) (l : Ledger) → Adds time l l
 adds_nothing time l = record { carved = []; budgets = refl; charged = []; charges = refl; timed = tt }
 
-pub adds_charge : (i ns time : ℕ) (l : Ledger) → Adds (some time) l (note_charge i ns time l)
+pub adds_charge : (i ns time : ℕ) (l : Ledger) → Adds (Some time) l (note_charge i ns time l)
 adds_charge i ns time l = record { carved = []; budgets = refl; charged = record { budget = i; ns = ns; time = time } ∷ []; charges = refl; timed = (refl, tt) }
 
 accepted_adds : (c : Call) (next : ℕ) (l : Ledger) → Adds (clock c) l (ledger.accepted c next l)
-accepted_adds (create kind payer backing) next l = adds_nothing none l
-accepted_adds (insert kind payer bytes) next l = adds_nothing none l
+accepted_adds (create kind payer backing) next l = adds_nothing None l
+accepted_adds (insert kind payer bytes) next l = adds_nothing None l
 accepted_adds (create_budget parent cpu memory time) next l =
     record { carved = record { id = next; it = record { parent = parent; allowance = cpu } } ∷ []; budgets = refl; charged = []; charges = refl; timed = tt }
-accepted_adds (charge_more i bytes) next l = adds_nothing none l
-accepted_adds (uncharge i bytes) next l = adds_nothing none l
-accepted_adds (remove i time) next l = adds_nothing (some time) l
-accepted_adds (refill i time) next l = adds_nothing (some time) l
+accepted_adds (charge_more i bytes) next l = adds_nothing None l
+accepted_adds (uncharge i bytes) next l = adds_nothing None l
+accepted_adds (remove i time) next l = adds_nothing (Some time) l
+accepted_adds (refill i time) next l = adds_nothing (Some time) l
 accepted_adds (charge_cpu i ns time) next l = adds_charge i ns time l
-accepted_adds (pays_for_anything i) next l = adds_nothing none l
-accepted_adds (read_account i) next l = adds_nothing none l
-accepted_adds (charge_of i) next l = adds_nothing none l
-accepted_adds (read_totals i) next l = adds_nothing none l
+accepted_adds (pays_for_anything i) next l = adds_nothing None l
+accepted_adds (read_account i) next l = adds_nothing None l
+accepted_adds (charge_of i) next l = adds_nothing None l
+accepted_adds (read_totals i) next l = adds_nothing None l
 
 pub note_adds : (c : Call) (n next : ℕ) (l : Ledger) → Adds (clock c) l (note c n next l)
 note_adds c n next l = test (eqb n 0) (λ a. rw a (accepted_adds c next l)) (λ a. rw a (adds_nothing (clock c) l))

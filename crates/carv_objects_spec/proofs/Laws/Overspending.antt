@@ -1,7 +1,6 @@
 -- P3 for the registry's calls: each keeps the invariant of Spending.antt. Assumes nothing.
-use Rattle.std.specs.Prelude.{◌≡◌, refl, Bool, true, false, ℕ, ◌+◌, ◌-◌, ◌*◌, ◌/◌, ◌≤◌, min, eqb}
+use Rattle.std.specs.Prelude.{◌≡◌, refl, Bool, true, false, ℕ, ◌+◌, ◌-◌, ◌*◌, ◌/◌, ◌≤◌, min, eqb, Some}
 use Rattle.std.proofs.Common.{sym, ◌∙◌, ap, subst, arith}
-use Rattle.std.proofs.Math.Option.{some}
 use Rattle.std.proofs.Math.Nat.{sub-zero}
 use Rattle.carv_area.specs.Laws.Table
 use Rattle.carv_area.specs.Table.{at}
@@ -10,10 +9,13 @@ use Rattle.carv_budget.specs.declared.Account.{Account}
 use Rattle.carv_budget.specs.Account as account
 use Rattle.carv_budget.specs.Account.{period, renew, spend}
 use Rattle.carv_budget.proofs.Laws.Account as account_laws
+use Rattle.carv_objects_spec.specs.declared.kind.Kind.{Kind}
+use Rattle.carv_objects_spec.specs.declared.kind.Kind.TheVariants.{Budget}
+use Rattle.carv_objects_spec.specs.Kinds.{kind_of, bytes_of, is_budget_kind}
 use Rattle.carv_objects_spec.specs.declared.Entry.{Entry}
 use Rattle.carv_objects_spec.proofs.Laws.Asked.{asked}
 use Rattle.carv_objects_spec.specs.Registry as registry
-use Rattle.carv_objects_spec.specs.Registry.{Registry, RegistryReply, is_budget, has, account_of, on_account, on_charge, renew_if, budget, plain, carved, bytes_of, charge_most}
+use Rattle.carv_objects_spec.specs.Registry.{Registry, RegistryReply, is_budget, has, account_of, on_account, on_charge, renew_if, budget, plain, carved, charge_most}
 use Rattle.carv_objects_spec.proofs.Laws.SoundFacts.{Sound}
 use Rattle.carv_objects_spec.proofs.Laws.Steps.{BudgetEntry, ObjectEntry, at_on_account, below_next, added, charged, removed}
 use Rattle.carv_objects_spec.proofs.Laws.Kept as calls
@@ -37,7 +39,7 @@ renew_keeps t = keeps_account (λ a. renew a t) (λ a. (account_laws.renewal a t
 
 pub release_keeps : (e : Entry) (t : ℕ) → KeepsShare (on_account (release e t))
 release_keeps e t =
-    keeps_account (release e t) (λ a. test (eqb e.kind 6) (λ h. rw h (account_laws.renewal a t).cpu_allowance) (λ h. rw h))
+    keeps_account (release e t) (λ a. test (is_budget_kind e.kind) (λ h. rw h (account_laws.renewal a t).cpu_allowance) (λ h. rw h))
 
 module _ (r : Registry) (s : Sound r) (l : Ledger) (i t : ℕ) (e : Entry) (B : BudgetEntry r i e) (W : Balanced r l t) where
   now : Renewed e.account (renew e.account t) t
@@ -60,7 +62,7 @@ module _ (r : Registry) (s : Sound r) (l : Ledger) (i t : ℕ) (e : Entry) (B : 
       (calls.spend_kept r i t e ns s B) W
 
 -- a memory charge or credit of a budget
-memory_balanced : (r : Registry) (l : Ledger) (i t : ℕ) (y : Entry) (used : Account → ℕ) → at r.rows i ≡ some y → Balanced r l t
+memory_balanced : (r : Registry) (l : Ledger) (i t : ℕ) (y : Entry) (used : Account → ℕ) → at r.rows i ≡ Some y → Balanced r l t
     → Balanced (budget i (λ a. account.with_memory a (used a) a.memory_reserved) r) l t
 memory_balanced r l i t y used here W =
     alter_step r i y (on_account (λ a. account.with_memory a (used a) a.memory_reserved)) here (keeps_account _ (λ a. refl)) l t
@@ -72,7 +74,7 @@ memory_balanced r l i t y used here W =
 held_blank : (p : ℕ) → held p account.blank ≤ 0
 held_blank p = test (eqb 0 (p * period)) (λ a. rw a (omega arith)) (λ a. rw a (omega arith))
 
-plain_balanced : (r : Registry) (l : Ledger) (kind payer n t : ℕ) (e : Entry) → Sound r → BudgetEntry r payer e → Balanced r l t
+plain_balanced : (r : Registry) (l : Ledger) (kind : Kind) (payer n t : ℕ) (e : Entry) → Sound r → BudgetEntry r payer e → Balanced r l t
     → Balanced (added r (λ a. account.charge a n) (plain kind payer n)) l t
 plain_balanced r l kind payer n t e s B W =
     add_step (budget payer (λ a. account.charge a n) r) (plain kind payer n) l t
@@ -125,12 +127,12 @@ remove_balanced r l i t e y s O not_root W =
     let f = release e t in
     let r₁ = budget e.payer f r in
     let low = (s.each i e O.here).lower not_root in
-    let (start, less) = release_held y.account e t (eqb e.kind 6) (budget_sound s O.payer) (W.starts e.payer y O.payer.here)
+    let (start, less) = release_held y.account e t (is_budget_kind e.kind) (budget_sound s O.payer) (W.starts e.payer y O.payer.here)
     (limits_within r i e y s O not_root).cpu (s.each i e O.here).plain in
     let k = release_keeps e t in
     let W₁ : Balanced r₁ l t = alter_step r e.payer y (on_account f) O.payer.here k l t start (omega arith) W in
     let most = bounded r s (spent l p) p W.lines r.next i e (omega arith) O.here in
-    let e_here : at r₁.rows i ≡ some e = Table.at_alter_other r.rows e.payer i (on_account f) (λ q. omega arith) ∙ O.here in
+    let e_here : at r₁.rows i ≡ Some e = Table.at_alter_other r.rows e.payer i (on_account f) (λ q. omega arith) ∙ O.here in
     rw (← Table.erase_alter r.rows i e.payer (on_account f) (λ q. omega arith))
     (erase_step r₁ i e l t (Table.rising_alter r.rows 1 r.next e.payer (on_account f) s.rising) e_here
     (λ z there. let q : on_account f y ≡ z = cc (Table.at_alter r.rows e.payer (on_account f) y O.payer.here) in
@@ -146,12 +148,12 @@ StaysBalanced c r l t a = Balanced a.after (note c a.number r.next l) t
 module _ (r : Registry) (s : Sound r) (l : Ledger) (t : ℕ) (W : Balanced r l t) where
   insert_balanced : (kind payer n : ℕ) → StaysBalanced (insert kind payer n) r l t (run (insert kind payer n) r)
   insert_balanced kind payer n =
-      calls.insert_cases (StaysBalanced (insert kind payer n) r l t) kind payer n r (λ q h. rw h W) λ e B code other room covers. plain_balanced r l kind payer n t e s B W
+      calls.insert_cases (StaysBalanced (insert kind payer n) r l t) kind payer n r (λ q h. rw h W) λ e B code other room covers. plain_balanced r l (kind_of kind) payer n t e s B W
 
   create_balanced : (kind payer : ℕ) (backing : Bool) → StaysBalanced (create kind payer backing) r l t (run (create kind payer backing) r)
   create_balanced kind payer backing =
       calls.create_cases (StaysBalanced (create kind payer backing) r l t) kind payer backing r (λ q h. rw h W)
-      λ e B code other room covers. plain_balanced r l kind payer (bytes_of kind) t e s B W
+      λ e B code other room covers. plain_balanced r l (kind_of kind) payer (bytes_of (kind_of kind)) t e s B W
 
   create_budget_balanced : (parent cpu memory : ℕ) → StaysBalanced (create_budget parent cpu memory t) r l t (run (create_budget parent cpu memory t) r)
   create_budget_balanced parent cpu memory =
@@ -213,8 +215,8 @@ opening_balanced cpu memory =
         record {
           taken = omega arith;
           lower = omega arith;
-          payer = λ e here kind. (let z : record { kind = 6; payer = 1; charge = 0; account = account.fresh cpu memory 0 } ≡ e = cc in ap (λ (d : Entry). d.payer) z);
-          allowance = λ e here kind. (let z : record { kind = 6; payer = 1; charge = 0; account = account.fresh cpu memory 0 } ≡ e = cc in ap (λ (d : Entry). d.account.cpu_allowance) z);
+          payer = λ e here kind. (let z : record { kind = Budget; payer = 1; charge = 0; account = account.fresh cpu memory 0 } ≡ e = cc in ap (λ (d : Entry). d.payer) z);
+          allowance = λ e here kind. (let z : record { kind = Budget; payer = 1; charge = 0; account = account.fresh cpu memory 0 } ≡ e = cc in ap (λ (d : Entry). d.account.cpu_allowance) z);
         },
         tt,
       );

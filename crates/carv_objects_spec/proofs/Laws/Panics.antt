@@ -1,9 +1,8 @@
 -- The Rust's registry doesn't panic: on a sound registry with a 64-bit root, no call whose answer is no added refusal leaves 64 bits or meets an `expect` that fails, and
 -- so for every list of calls from an opening. Of the arguments nothing need be said. Assumes nothing.
-use Rattle.std.specs.Prelude.{◌≡◌, refl, Bool, true, false, cond, not, ◌&&◌, List, [], ◌∷◌, ◌++◌, ℕ, zero, suc, ◌+◌, ◌-◌, ◌^◌, ◌≤◌, ◌<◌, eqb, leb}
+use Rattle.std.specs.Prelude.{◌≡◌, refl, Bool, true, false, cond, not, ◌&&◌, List, [], ◌∷◌, ◌++◌, ℕ, zero, suc, ◌+◌, ◌-◌, ◌^◌, ◌≤◌, ◌<◌, eqb, leb, Option, Some, None}
 use Rattle.std.proofs.Common.{◌∙◌, ap, subst, arith, add-sub_cancel}
 use Rattle.std.proofs.lemmas.Bool.{false≢true}
-use Rattle.std.proofs.Math.Option.{Option, none, some}
 use borrow.Author.Tests.{eqb-true, eqb-false, leb-true, le-leb, ltb-true, le-ltb}
 use Rattle.carv_area.specs.Laws.Table
 use Rattle.carv_area.specs.Table.{Row, at, alter}
@@ -19,9 +18,12 @@ use Rattle.carv_budget.specs.Panics.{Check, sum, AllPass}
 use Rattle.carv_budget.proofs.Laws.Panics as budget_laws
 use Rattle.carv_budget.proofs.Laws.Panics.{both_pass}
 use Rattle.carv_budget.proofs.Laws.Refines.{charge_memory_by, release_memory_by}
+use Rattle.carv_objects_spec.specs.declared.kind.Kind.{Kind}
+use Rattle.carv_objects_spec.specs.Kinds.{listed, kind_of, is_budget_kind}
+use Rattle.carv_objects_spec.proofs.Laws.Kinds.{kind_told}
 use Rattle.carv_objects_spec.specs.declared.Entry.{Entry}
 use Rattle.carv_objects_spec.specs.Registry as r01
-use Rattle.carv_objects_spec.specs.Registry.{Registry, RegistryReply, or_missing, account_of, has_place, has_next, listed, on_account, on_charge}
+use Rattle.carv_objects_spec.specs.Registry.{Registry, RegistryReply, or_missing, account_of, has_place, has_next, on_account, on_charge}
 use Rattle.carv_objects_spec.specs.Refused.{added}
 use Rattle.carv_objects_spec.specs.Rust as rust
 use Rattle.carv_objects_spec.specs.Panics as panics
@@ -47,10 +49,10 @@ pub record Fits (ids : ℕ) (r : Registry) : Type 0 where
   pub counter : ids ≤ r.next
 
 -- No limit is above the root's: a child's is within its payer's reservations, and payers have lower ids.
-pub limit_below_root : (r : Registry) → Sound r → (n i : ℕ) (e : Entry) → i < n → at r.rows i ≡ some e → e.account.memory_limit ≤ (account_of r 1).memory_limit
+pub limit_below_root : (r : Registry) → Sound r → (n i : ℕ) (e : Entry) → i < n → at r.rows i ≡ Some e → e.account.memory_limit ≤ (account_of r 1).memory_limit
 limit_below_root r s zero i e h q = absurd (omega arith)
 limit_below_root r s (suc n) i e h q = test (eqb i 1)
-    (λ d. let q' : at r.rows 1 ≡ some e = rw (eqb-true i 1 d) at q in rw (ap or_missing q', account_of) (omega arith))
+    (λ d. let q' : at r.rows 1 ≡ Some e = rw (eqb-true i 1 d) at q in rw (ap or_missing q', account_of) (omega arith))
     (λ d. let not_root = eqb-false i 1 d in
     let (y, B) = budget_entry r e.payer (s.each i e q).paid in
     let O : ObjectEntry r i e y = record { here = q; read = ap or_missing q; payer = B } in
@@ -59,32 +61,32 @@ limit_below_root r s (suc n) i e h q = test (eqb i 1)
     omega (arith, (limits_within r i e y s O not_root).memory, (s.each e.payer y B.here).memory))
 
 -- what stands under an id, and behind `budget_mut`
-pub look : {A C : Type 0} (o : Option A) → (o ≡ none → C) → ((a : A) → o ≡ some a → C) → C
-look none f g = f refl
-look (some a) f g = g a refl
+pub look : {A C : Type 0} (o : Option A) → (o ≡ None → C) → ((a : A) → o ≡ Some a → C) → C
+look None f g = f refl
+look (Some a) f g = g a refl
 
 record Behind (o : Option Entry) (a : Account) (e : Entry) : Type 0 where
-  here : o ≡ some e
-  kind : eqb e.kind 6 ≡ true
+  here : o ≡ Some e
+  kind : is_budget_kind e.kind ≡ true
   account : e.account ≡ a
 
-behind : (o : Option Entry) (a : Account) → rust.budget_of o ≡ some a → (e : Entry) × Behind o a e
-behind none a h = let z : ◌≡◌ {A = ℕ} 0 1 = cc in absurd (omega arith)
-behind (some e) a h = test (eqb e.kind 6)
-    (λ k. let h' : some e.account ≡ some a = rw k at h in (e, record { here = refl; kind = k; account = cc }))
-    (λ k. let h' : none ≡ some a = rw k at h in let z : ◌≡◌ {A = ℕ} 0 1 = cc in absurd (omega arith))
+behind : (o : Option Entry) (a : Account) → rust.budget_of o ≡ Some a → (e : Entry) × Behind o a e
+behind None a h = let z : ◌≡◌ {A = ℕ} 0 1 = cc in absurd (omega arith)
+behind (Some e) a h = test (is_budget_kind e.kind)
+    (λ k. let h' : Some e.account ≡ Some a = rw k at h in (e, record { here = refl; kind = k; account = cc }))
+    (λ k. let h' : None ≡ Some a = rw k at h in let z : ◌≡◌ {A = ℕ} 0 1 = cc in absurd (omega arith))
 
 -- the account of a budget of a sound registry with a 64-bit root
 record Good (a : Account) : Type 0 where
   sound : account.sound a ≡ true
   limit : a.memory_limit < 2 ^ 64
 
-pub budget_sound : (p : ℕ) (r : Registry) (a : Account) → Sound r → rust.budget_mut p r ≡ some a → account.sound a ≡ true
+pub budget_sound : (p : ℕ) (r : Registry) (a : Account) → Sound r → rust.budget_mut p r ≡ Some a → account.sound a ≡ true
 budget_sound p r a s q =
     let (e, B) = behind (at r.rows p) a q in
     subst (λ (x : Account). account.sound x ≡ true) B.account (account_sound (s.each p e B.here))
 
-good : (p : ℕ) (r : Registry) (a : Account) → Sound r → (account_of r 1).memory_limit < 2 ^ 64 → rust.budget_mut p r ≡ some a → Good a
+good : (p : ℕ) (r : Registry) (a : Account) → Sound r → (account_of r 1).memory_limit < 2 ^ 64 → rust.budget_mut p r ≡ Some a → Good a
 good p r a s w q =
     let (e, B) = behind (at r.rows p) a q in
     record {
@@ -93,18 +95,18 @@ good p r a s w q =
     }
 
 -- what is written through `budget_mut`
-written : (p : ℕ) (r : Registry) (a x : Account) → rust.budget_mut p r ≡ some a → rust.budget_mut p (rust.write_budget p x r) ≡ some x
+written : (p : ℕ) (r : Registry) (a x : Account) → rust.budget_mut p r ≡ Some a → rust.budget_mut p (rust.write_budget p x r) ≡ Some x
 written p r a x q = let (e, B) = behind (at r.rows p) a q in rw (Table.at_alter r.rows p (on_account (λ _. x)) e B.here, B.kind)
 
 -- a refill leaves a sound registry
-pub refilled_sound : (i now : ℕ) (r : Registry) (a : Account) → Sound r → rust.budget_mut i r ≡ some a → Sound (rust.write_budget i (budget.refill a now).self r)
+pub refilled_sound : (i now : ℕ) (r : Registry) (a : Account) → Sound r → rust.budget_mut i r ≡ Some a → Sound (rust.write_budget i (budget.refill a now).self r)
 refilled_sound i now r a s q = rw q at (subst (λ (x : RegistryReply). Sound x.after) (refines.refill_rust i now r) (calls.refill_kept i now r s))
 
 -- Lists of checks.
 
-pub some_pass : {A : Type 0} (o : Option A) (cs : A → List Check) → ((a : A) → o ≡ some a → AllPass (cs a)) → AllPass (if_some o cs)
-some_pass none cs h = tt
-some_pass (some a) cs h = h a refl
+pub some_pass : {A : Type 0} (o : Option A) (cs : A → List Check) → ((a : A) → o ≡ Some a → AllPass (cs a)) → AllPass (if_some o cs)
+some_pass None cs h = tt
+some_pass (Some a) cs h = h a refl
 
 credit_passes : (p n : ℕ) (r : Registry) → AllPass (panics.credit p n r)
 unfolding panics.credit
@@ -112,7 +114,7 @@ credit_passes p n r = some_pass (rust.budget_mut p r) _ λ a _. budget_laws.rele
 
 -- the payer's account, if there is one, is good
 abbrev Payer : (p : ℕ) → Registry → Type 0
-Payer p r = (a : Account) → rust.budget_mut p r ≡ some a → Good a
+Payer p r = (a : Account) → rust.budget_mut p r ≡ Some a → Good a
 
 charge_passes : (p n : ℕ) (r : Registry) → Payer p r → AllPass (panics.charge p n r)
 unfolding panics.charge
@@ -120,7 +122,7 @@ charge_passes p n r g = some_pass (rust.budget_mut p r) _ λ a q. budget_laws.ch
 
 -- behind an accepted charge
 charged_passes : (p n : ℕ) (r : Registry) (cs : Registry → List Check)
-    → ((a : Account) → rust.budget_mut p r ≡ some a → n ≤ free a → AllPass (cs (rust.write_budget p (charge a n) r)))
+    → ((a : Account) → rust.budget_mut p r ≡ Some a → n ≤ free a → AllPass (cs (rust.write_budget p (charge a n) r)))
     → AllPass (if_ok (rust.charge p n r).result (cs (rust.charge p n r).self))
 unfolding rust.charge
 charged_passes p n r cs h = look (rust.budget_mut p r) (λ q. rw q tt)
@@ -139,7 +141,7 @@ ok_pass (budget.ok _) cs h = h
 ok_pass (budget.err _) cs h = tt
 
 -- a charge credited again leaves the payer's account as it was
-module _ (p n : ℕ) (r : Registry) (a : Account) (q : rust.budget_mut p r ≡ some a) where
+module _ (p n : ℕ) (r : Registry) (a : Account) (q : rust.budget_mut p r ≡ Some a) where
   abbrev charged : Registry
   charged = rust.write_budget p (charge a n) r
 
@@ -149,7 +151,7 @@ module _ (p n : ℕ) (r : Registry) (a : Account) (q : rust.budget_mut p r ≡ s
 
   credited_payer : Good a → Payer p (rust.credit p n charged)
   credited_payer g b h =
-      let h' : rust.budget_mut p (rust.write_budget p a charged) ≡ some b = rw credited at h in
+      let h' : rust.budget_mut p (rust.write_budget p a charged) ≡ Some b = rw credited at h in
       let z : a ≡ b = cc (written p charged (charge a n) a (written p r a (charge a n) q)) in
       subst Good z g
 
@@ -160,7 +162,7 @@ module _ (r : Registry) (s : Sound r) (w : (account_of r 1).memory_limit < 2 ^ 6
   good_payer : (p : ℕ) → Payer p r
   good_payer p a q = good p r a s w q
 
-  built_passes : (b : rust.Built) (p n : ℕ) (a : Account) → rust.budget_mut p r ≡ some a → r.next + 1 < 2 ^ 64
+  built_passes : (b : rust.Built) (p n : ℕ) (a : Account) → rust.budget_mut p r ≡ Some a → r.next + 1 < 2 ^ 64
       → AllPass (panics.create_built b p n (rust.write_budget p (charge a n) r))
   built_passes rust.no_method p n a q h = credit_passes p n (charged p n r a q)
   built_passes rust.no_backing p n a q h = credit_passes p n (charged p n r a q)
@@ -168,7 +170,7 @@ module _ (r : Registry) (s : Sound r) (w : (account_of r 1).memory_limit < 2 ^ 6
       both_pass (panics.credit p n (charged p n r a q)) _ (credit_passes p n (charged p n r a q))
       (insert_passes p n (rust.credit p n (charged p n r a q)) (credited_payer p n r a q (good_payer p a q)) (omega (arith, credited_next p n r a q)))
 
-  create_passes : (kind p : ℕ) (backing : Bool) → r.next + 1 < 2 ^ 64 → AllPass (panics.create kind p backing r)
+  create_passes : (kind : Kind) (p : ℕ) (backing : Bool) → r.next + 1 < 2 ^ 64 → AllPass (panics.create kind p backing r)
   create_passes kind p backing h =
       let n : ℕ = rust.object_bytes kind in
       both_pass (panics.charge p n r) _ (charge_passes p n r (good_payer p))
@@ -192,7 +194,7 @@ module _ (r : Registry) (s : Sound r) (w : (account_of r 1).memory_limit < 2 ^ 6
       both_pass (panics.charge e.payer n r) _ (charge_passes e.payer n r (good_payer e.payer))
       (charged_passes e.payer n r (panics.raise i n) λ a q f.
       let (y, B) = behind (at r.rows e.payer) a q in
-      let P : BudgetEntry r e.payer y = record { here = B.here; kind = eqb-true y.kind 6 B.kind; read = ap or_missing B.here } in
+      let P : BudgetEntry r e.payer y = record { here = B.here; kind = kind_told y.kind B.kind; read = ap or_missing B.here } in
       let O : ObjectEntry r i e y = record { here = here; read = ap or_missing here; payer = P } in
       let k : e.charge ≤ a.memory_used = subst (λ (x : Account). e.charge ≤ x.memory_used) B.account (charge_within r i e y s O) in
       let g = account_laws.sound_told (good_payer e.payer a q).sound in
@@ -225,6 +227,11 @@ module _ (r : Registry) (s : Sound r) (w : (account_of r 1).memory_limit < 2 ^ 6
   charge_cpu_passes : (i ns now : ℕ) → AllPass (panics.charge_cpu i ns now r)
   charge_cpu_passes i ns now = some_pass (rust.budget_mut i r) _ λ a q. budget_laws.charge_cpu_passes a ns now (good_payer i a q).sound
 
+-- whichever type a code names
+some_type : (o : Option Kind) (checks : Kind → List Check) → ((ty : Kind) → AllPass (checks ty)) → AllPass (panics.if_some o checks)
+some_type None checks h = tt
+some_type (Some ty) checks h = h ty
+
 -- Question 6 is passed, so the next id can rise by one.
 
 abbrev Room : Registry → RegistryReply → Type 0
@@ -236,7 +243,7 @@ create_room kind p backing r =
 
 insert_room : (kind p n : ℕ) (r : Registry) → Room r (r01.insert kind p n r)
 insert_room kind p n r =
-    asked (Room r) (listed kind) (λ h. cc) λ _. asked (Room r) (not (eqb kind 6)) (λ h. cc) λ _.
+    asked (Room r) (listed kind) (λ h. cc) λ _. asked (Room r) (not (is_budget_kind (kind_of kind))) (λ h. cc) λ _.
     asked (Room r) (has_place r) (λ h. cc) λ _. asked (Room r) (has_next r) (λ h. cc) λ d _. d
 
 create_budget_room : (p cpu memory time : ℕ) (r : Registry) → Room r (r01.create_budget p cpu memory time r)
@@ -248,8 +255,10 @@ next_rises r d = omega (arith, ltb-true r.next _ d)
 -- one call
 pub call_passes : (c : Call) (ids : ℕ) (r : Registry) → Sound r → Fits ids r → is_added c (run c r).number ≡ false → AllPass (checks c ids r)
 unfolding checks
-call_passes (create kind payer backing) ids r s f h = create_passes r s f.limit kind payer backing (next_rises r (create_room kind payer backing r h))
-call_passes (insert kind payer bytes) ids r s f h = insert_passes payer bytes r (good_payer r s f.limit payer) (next_rises r (insert_room kind payer bytes r h))
+call_passes (create kind payer backing) ids r s f h =
+    some_type (rust.from_raw kind) _ λ ty. create_passes r s f.limit ty payer backing (next_rises r (create_room kind payer backing r h))
+call_passes (insert kind payer bytes) ids r s f h =
+    some_type (rust.from_raw kind) _ λ ty. insert_passes payer bytes r (good_payer r s f.limit payer) (next_rises r (insert_room kind payer bytes r h))
 call_passes (create_budget parent cpu memory time) ids r s f h =
     let n = next_rises r (create_budget_room parent cpu memory time r h) in
     create_budget_passes r s f.limit ids parent cpu memory time (omega (arith, f.counter)) n
@@ -329,7 +338,7 @@ onward (uncharge i bytes) r s =
     calls.uncharge_cases (λ a. Onward r a.after) i bytes r s (λ _ _. stays r) λ e y _ _. charged_onward r s i e _ _ (λ _. refl)
 onward (remove i time) r s =
     calls.remove_cases (λ a. Onward r a.after) i time r s (λ _ _. stays r) λ e y O not_root _.
-    removed_onward r s i e _ not_root (calls.renew_if_moves (eqb e.kind 6) y.account time (calls.budget_sound s O.payer)).limit
+    removed_onward r s i e _ not_root (calls.renew_if_moves (is_budget_kind e.kind) y.account time (calls.budget_sound s O.payer)).limit
 onward (refill i time) r s =
     calls.refill_cases (λ a. Onward r a.after) i time r (λ _ _. stays r) λ e B. account_onward r i _ (λ a. renew_limit a time)
 onward (charge_cpu i ns time) r s =

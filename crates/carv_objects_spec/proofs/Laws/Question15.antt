@@ -1,14 +1,14 @@
 -- P12: on a sound registry a removal that reaches question 15 passes it and has a live payer; so asking it changes nothing, and the Rust's `remove` has no error there. Also what
 -- a removal answers, and cases: registries that miss the question by one part of it, none of them sound. Assumes nothing.
-use Rattle.std.specs.Prelude.{◌≡◌, refl, true, false, cond, not, ◌&&◌, ◌||◌, ℕ, ◌-◌, ◌≤◌, eqb, leb}
+use Rattle.std.specs.Prelude.{◌≡◌, refl, true, false, cond, not, ◌&&◌, ◌||◌, ℕ, ◌-◌, ◌≤◌, eqb, leb, Some, None, Result, Ok, Err}
 use Rattle.std.proofs.Common.{sym, ap, ◌∙◌, arith, eqb-true, ne_eqb}
-use Rattle.std.proofs.Math.Option.{none, some}
 use Rattle.std.proofs.lemmas.Bool.{eqb-false, lt-leb, not-true}
 use Rattle.carv_area.specs.Laws.Table.{test}
 use Rattle.carv_budget.specs.declared.Account.{Account}
 use Rattle.carv_budget.specs.Account as account
 use Rattle.carv_budget.specs.Rust as budget_rust
 use Rattle.carv_budget.proofs.Laws.Account.{first, second}
+use Rattle.carv_objects_spec.specs.declared.kind.Kind.TheVariants.{Budget}
 use Rattle.carv_objects_spec.specs.declared.Entry.{Entry}
 use Rattle.carv_objects_spec.specs.Reply.{refuse}
 use Rattle.carv_objects_spec.specs.Registry.{Registry, RegistryReply, has, is_budget, account_of, payer_of, pays_for, add, opening, create, create_budget, remove}
@@ -69,14 +69,14 @@ accepted_exactly i time r =
     test (has r i) (λ a. test (not (eqb i 1)) (λ b. test (not (is_budget r i && pays_for r i)) (λ c. rw (a, b, c)) (λ c. rw (a, b, c))) (λ b. rw (a, b))) (λ a. rw a)
 
 -- The Rust keeps its error, and the reply to it would be 15. On a sound registry it doesn't come: past 7, 9 and 10 both removals go through, P2's reference and carv-os' own.
-went_through : (x : rust.Result (Unit {0})) (self : Registry) → (result_of nothing 15 x self).number ≡ 0 → x ≡ rust.ok tt
-went_through (rust.ok tt) self h = refl
-went_through (rust.err rust.not_found) self h = absurd (omega (arith, h))
-went_through (rust.err rust.budget_exceeded) self h = absurd (omega (arith, h))
-went_through (rust.err rust.invalid_method) self h = absurd (omega (arith, h))
-went_through (rust.err rust.root_budget) self h = absurd (omega (arith, h))
-went_through (rust.err rust.in_use) self h = absurd (omega (arith, h))
-went_through (rust.err rust.out_of_memory) self h = absurd (omega (arith, h))
+went_through : (x : Result (Unit {0}) rust.ObjectError) (self : Registry) → (result_of nothing 15 x self).number ≡ 0 → x ≡ Ok tt
+went_through (Ok tt) self h = refl
+went_through (Err rust.not_found) self h = absurd (omega (arith, h))
+went_through (Err rust.budget_exceeded) self h = absurd (omega (arith, h))
+went_through (Err rust.invalid_method) self h = absurd (omega (arith, h))
+went_through (Err rust.root_budget) self h = absurd (omega (arith, h))
+went_through (Err rust.in_use) self h = absurd (omega (arith, h))
+went_through (Err rust.out_of_memory) self h = absurd (omega (arith, h))
 
 -- no account is due at 0
 not_due_at_0 : (a : Account) → account.due a 0 ≡ false
@@ -93,30 +93,30 @@ both_told i time r s =
     )
 
 pub rust_goes_through : (i time : ℕ) (r : Registry) → sound r ≡ true → reaches_15 i r ≡ true
-    → ((rust.remove i time r).result ≡ rust.ok tt) × ((rust.remove_unrenewed i r).result ≡ rust.ok tt)
+    → ((rust.remove i time r).result ≡ Ok tt) × ((rust.remove_unrenewed i r).result ≡ Ok tt)
 rust_goes_through i time r s h = let (renewing, own) = both_told i time r s in (by (rust.remove i time r) time renewing, by (rust.remove_unrenewed i r) 0 own)
   where
-    by : (z : rust.Call (Unit {0})) (t : ℕ) → (remove i t r).number ≡ (reply_of nothing 15 z).number → z.result ≡ rust.ok tt
+    by : (z : rust.Call (Unit {0})) (t : ℕ) → (remove i t r).number ≡ (reply_of nothing 15 z).number → z.result ≡ Ok tt
     by z t e = went_through z.result z.self (sym e ∙ eqb-true (remove i t r).number 0 (accepted_exactly i t r ∙ h))
 
 pub rust_returns : (i time : ℕ) (r : Registry) → sound r ≡ true
-    → ((rust.remove i time r).result ≡ rust.err rust.invalid_method → ⊥) × ((rust.remove_unrenewed i r).result ≡ rust.err rust.invalid_method → ⊥)
+    → ((rust.remove i time r).result ≡ Err rust.invalid_method → ⊥) × ((rust.remove_unrenewed i r).result ≡ Err rust.invalid_method → ⊥)
 rust_returns i time r s = let (renewing, own) = both_told i time r s in (by (rust.remove i time r) time renewing, by (rust.remove_unrenewed i r) 0 own)
   where
-    by : (z : rust.Call (Unit {0})) (t : ℕ) → (remove i t r).number ≡ (reply_of nothing 15 z).number → z.result ≡ rust.err rust.invalid_method → ⊥
-    by z t e q = (leaves (book.remove i t) r).not_15 (e ∙ ap (λ (x : rust.Result (Unit {0})). (result_of nothing 15 x z.self).number) q)
+    by : (z : rust.Call (Unit {0})) (t : ℕ) → (remove i t r).number ≡ (reply_of nothing 15 z).number → z.result ≡ Err rust.invalid_method → ⊥
+    by z t e q = (leaves (book.remove i t) r).not_15 (e ∙ ap (λ (x : Result (Unit {0}) rust.ObjectError). (result_of nothing 15 x z.self).number) q)
 
 -- What the Rust does where it comes to an error, on any registry, sound or not: the entry is put back as it was, and the payer keeps what was done to it before.
-module _ (before : Account → Account) (i : ℕ) (r : Registry) (e : Entry) (not_root : eqb i 1 ≡ false) (here : rust.get i r ≡ some e)
+module _ (before : Account → Account) (i : ℕ) (r : Registry) (e : Entry) (not_root : eqb i 1 ≡ false) (here : rust.get i r ≡ Some e)
     (b : rust.is_budget e ≡ true) (idle : rust.pays_for_anything i r ≡ false) where
-  pub rust_without_payer : rust.budget_mut e.payer (rust.remove_entry i r) ≡ none
-      → rust.remove_with before i r ≡ rust.gives (rust.insert_entry i e (rust.remove_entry i r)) (rust.err rust.not_found)
+  pub rust_without_payer : rust.budget_mut e.payer (rust.remove_entry i r) ≡ None
+      → rust.remove_with before i r ≡ rust.gives (rust.insert_entry i e (rust.remove_entry i r)) (Err rust.not_found)
   rust_without_payer q = rw (not_root, here, b, idle, q)
 
-  pub rust_not_returned : (parent : Account) (x : budget_rust.BudgetError) → rust.budget_mut e.payer (rust.remove_entry i r) ≡ some parent
+  pub rust_not_returned : (parent : Account) (x : budget_rust.BudgetError) → rust.budget_mut e.payer (rust.remove_entry i r) ≡ Some parent
       → (budget_rust.release_child true (before parent) e.account).result ≡ budget_rust.err x
       → rust.remove_with before i r ≡ rust.gives (rust.insert_entry i e (rust.write_budget e.payer (budget_rust.release_child true (before parent) e.account).self (rust.remove_entry i r)))
-      (rust.err rust.invalid_method)
+      (Err rust.invalid_method)
   rust_not_returned parent x q w = rw (not_root, here, b, idle, q, w)
 
 -- Cases.
@@ -137,7 +137,7 @@ orphan = rust.remove_entry 1 carved
 
 -- the same, and budget 4, without shares, whose payer is 0
 abbrev pub unpaid : Registry
-unpaid = add (record { kind = 6; payer = 0; charge = 0; account = account.fresh 0 0 0 }) carved
+unpaid = add (record { kind = Budget; payer = 0; charge = 0; account = account.fresh 0 0 0 }) carved
 
 -- budget 4 has 1,000,000 ns and 1,000 bytes of budget 2's; the same with another account of budget 2, and without it
 abbrev pub nested : Registry
@@ -155,9 +155,9 @@ pub record Misses (i payer : ℕ) (r : Registry) : Type 0 where
   pub reaches : reaches_15 i r ≡ true
   pub missed : passes_15 i r ≡ false
   pub refused : remove_asking_15 i 0 r ≡ refuse 15 r
-  pub by_rust : rust.remove_unrenewed i r ≡ rust.gives r (rust.err rust.invalid_method)
+  pub by_rust : rust.remove_unrenewed i r ≡ rust.gives r (Err rust.invalid_method)
   -- P2's reference has renewed the payer by then
-  pub by_reference : rust.remove i 10_000_000 r ≡ rust.gives (rust.refill payer 10_000_000 r).self (rust.err rust.invalid_method)
+  pub by_reference : rust.remove i 10_000_000 r ≡ rust.gives (rust.refill payer 10_000_000 r).self (Err rust.invalid_method)
   pub told : (rust_run (book.remove i 10_000_000) r).number ≡ 15
 
 pub record Cases : Type 0 where
@@ -181,13 +181,13 @@ pub record Cases : Type 0 where
   -- another kind has nothing to return, whatever stands in its account
   pub frame : passes_15 3 (rust.write_budget 3 (account_of carved 1) carved) ≡ true
   -- no payer: the root gone, budget 2 gone, and a budget that names nobody
-  pub without_payer : (sound orphan ≡ false) × (rust.remove 2 0 orphan ≡ rust.gives orphan (rust.err rust.not_found))
-  pub nested_without_payer : (sound nested_orphan ≡ false) × (rust.remove 4 0 nested_orphan ≡ rust.gives nested_orphan (rust.err rust.not_found))
+  pub without_payer : (sound orphan ≡ false) × (rust.remove 2 0 orphan ≡ rust.gives orphan (Err rust.not_found))
+  pub nested_without_payer : (sound nested_orphan ≡ false) × (rust.remove 4 0 nested_orphan ≡ rust.gives nested_orphan (Err rust.not_found))
   pub paid_by_nobody : (sound unpaid ≡ false) × (reaches_15 4 unpaid ≡ true) × (has unpaid (payer_of unpaid 4) ≡ false)
 
 missing_it : (i payer : ℕ) (r : Registry) → sound r ≡ false → reaches_15 i r ≡ true → passes_15 i r ≡ false → remove_asking_15 i 0 r ≡ refuse 15 r
-    → rust.remove_unrenewed i r ≡ rust.gives r (rust.err rust.invalid_method)
-    → rust.remove i 10_000_000 r ≡ rust.gives (rust.refill payer 10_000_000 r).self (rust.err rust.invalid_method)
+    → rust.remove_unrenewed i r ≡ rust.gives r (Err rust.invalid_method)
+    → rust.remove i 10_000_000 r ≡ rust.gives (rust.refill payer 10_000_000 r).self (Err rust.invalid_method)
     → (rust_run (book.remove i 10_000_000) r).number ≡ 15 → Misses i payer r
 missing_it i payer r a b c d e f g = record { unsound = a; reaches = b; missed = c; refused = d; by_rust = e; by_reference = f; told = g }
 

@@ -1,8 +1,7 @@
 -- The calls of document 01 answer and leave what the Rust's methods do, on every sound registry, wherever the answer is no refusal that the port adds.
 -- Assumes nothing.
-use Rattle.std.specs.Prelude.{◌≡◌, refl, Bool, true, false, cond, not, ◌&&◌, ◌||◌, List, [], ◌∷◌, ◌++◌, ℕ, suc, ◌+◌, ◌-◌, ◌≤◌, eqb, leb}
+use Rattle.std.specs.Prelude.{◌≡◌, refl, Bool, true, false, cond, not, ◌&&◌, ◌||◌, List, [], ◌∷◌, ◌++◌, ℕ, suc, ◌+◌, ◌-◌, ◌≤◌, eqb, leb, Option, Some, None, Ok}
 use Rattle.std.proofs.Common.{sym, ap, ◌∙◌, arith, add-one, add-sub_cancel, eqb-true, eq-eqb, ne_eqb, leb-true, le-leb, le-ltb}
-use Rattle.std.proofs.Math.Option.{Option, none, some}
 use Rattle.std.proofs.Math.Nat.{sub-zero}
 use Rattle.std.proofs.lemmas.Bool.{eqb-false}
 use Rattle.carv_area.specs.Table.{Row, at, alter, erase, put, total, Rising}
@@ -12,13 +11,18 @@ use Rattle.carv_budget.specs.Account as account
 use Rattle.carv_budget.specs.Rust as budget
 use Rattle.carv_budget.proofs.Laws.Account.{renewal, renew_not_due, returnable_renewed}
 use Rattle.carv_budget.proofs.Laws.Refines.{refill_renews, charge_memory_by, release_memory_by, charge_cpu_by, carve_out_by, release_child_by, renew_charged}
+use Rattle.carv_objects_spec.specs.declared.kind.Kind.{Kind}
+use Rattle.carv_objects_spec.specs.declared.kind.Kind.TheVariants as kinds
+use Rattle.carv_objects_spec.specs.declared.kind.Kind.TheVariants.{Thread, AddressSpace, Frame, Endpoint, Notification, Budget, Irq, IrqControl}
+use Rattle.carv_objects_spec.specs.Kinds.{listed, kind_of, bytes_of, creatable, needs_backing, is_budget_kind}
+use Rattle.carv_objects_spec.proofs.Laws.Kinds.{kind_shown, kind_apart, from_raw_is}
 use Rattle.carv_objects_spec.specs.declared.Entry.{Entry}
 use Rattle.carv_objects_spec.specs.Reply.{refuse, accept, without_answer, Value, pays, of_account, charge}
 use Rattle.carv_objects_spec.specs.Registry as r01
 use Rattle.carv_objects_spec.specs.Totals.{read_totals}
-use Rattle.carv_objects_spec.specs.Registry.{Registry, RegistryReply, or_missing, entry, is_budget, account_of, payer_of, on_account, object, drop, add, plain, carved, bytes_of, listed, needs_backing, has_place, has_next}
+use Rattle.carv_objects_spec.specs.Registry.{Registry, RegistryReply, or_missing, entry, is_budget, account_of, payer_of, on_account, object, drop, add, plain, carved, has_place, has_next}
 use Rattle.carv_objects_spec.specs.Rust as rust
-use Rattle.carv_objects_spec.specs.Replies.{reply_of, an_id, nothing, a_renewal, cpu_reply_of, reading_of}
+use Rattle.carv_objects_spec.specs.Replies.{reply_of, of_type, an_id, nothing, a_renewal, cpu_reply_of, reading_of}
 use Rattle.carv_objects_spec.specs.Refused.{added, added_to_uncharge}
 use Rattle.carv_objects_spec.specs.Rust.{Call}
 use Rattle.carv_objects_spec.specs.Sound.{charge_by}
@@ -39,15 +43,15 @@ abbrev write : ℕ → Account → Registry → Registry
 write = rust.write_budget
 
 -- a budget is there
-there : (o : Option Entry) → eqb (or_missing o).kind 6 ≡ true → o ≡ some (or_missing o)
-there none p = cc
-there (some e) p = refl
+there : (o : Option Entry) → is_budget_kind (or_missing o).kind ≡ true → o ≡ Some (or_missing o)
+there None p = cc
+there (Some e) p = refl
 
-budget_of_is : (o : Option Entry) → rust.budget_of o ≡ cond (eqb (or_missing o).kind 6) (some (or_missing o).account) none
-budget_of_is none = refl
-budget_of_is (some e) = refl
+budget_of_is : (o : Option Entry) → rust.budget_of o ≡ cond (is_budget_kind (or_missing o).kind) (Some (or_missing o).account) None
+budget_of_is None = refl
+budget_of_is (Some e) = refl
 
-budget_mut_is : (p : ℕ) (r : Registry) → rust.budget_mut p r ≡ cond (is_budget r p) (some (account_of r p)) none
+budget_mut_is : (p : ℕ) (r : Registry) → rust.budget_mut p r ≡ cond (is_budget r p) (Some (account_of r p)) None
 budget_mut_is p r = budget_of_is (at r.rows p)
 
 abbrev with_rows : Registry → List (Row Entry) → Registry
@@ -64,7 +68,7 @@ module _ (p : ℕ) (r : Registry) (live : is_budget r p ≡ true) where
   write_same : write p (account_of r p) r ≡ r
   write_same = ap (with_rows r) (alter_known r.rows p (rust.set_budget (account_of r p)) (λ e. e) (entry r p) (there (at r.rows p) live) refl ∙ alter_id r.rows p)
 
-  budget_written : (x : Account) → rust.budget_mut p (write p x r) ≡ some x
+  budget_written : (x : Account) → rust.budget_mut p (write p x r) ≡ Some x
   budget_written x = rw (at_alter r.rows p (rust.set_budget x) (entry r p) (there (at r.rows p) live), live)
 
   credit_written : (x : Account) (n : ℕ) → rust.credit p n (write p x r) ≡ write p (budget.release_memory x n).self r
@@ -113,10 +117,11 @@ inserted e p f r u l =
     ap (λ (s : Registry). accept {S = Registry} (an_id s.next) (add e s)) (step_is p r l f) ∙ stored e (write p (f (account_of r p)) r) (rising_alter r.rows 1 r.next p _ u)
 
 pub insert_rust : (kind payer bytes : ℕ) (r : Registry) → Sound r → added (r01.insert kind payer bytes r).number ≡ false
-    → r01.insert kind payer bytes r ≡ reply_of an_id 13 (rust.insert payer kind bytes r)
+    → r01.insert kind payer bytes r ≡ of_type (rust.from_raw kind) (λ ty. reply_of an_id 13 (rust.insert payer ty bytes r)) r
 insert_rust kind payer bytes r s =
-    skip 4 (listed kind) r refl λ _. skip 4 (not (eqb kind 6)) r refl λ _. skip 6 (has_place r) r refl λ _. skip 6 (has_next r) r refl λ _ _.
-    charged an_id 13 payer bytes r _ _ λ l _. inserted (plain kind payer bytes) payer (λ a. account.charge a bytes) r s.rising l
+    skip 4 (listed kind) r refl λ w. rw (from_raw_is kind w)
+    (skip 4 (not (is_budget_kind (kind_of kind))) r refl λ _. skip 6 (has_place r) r refl λ _. skip 6 (has_next r) r refl λ _ _.
+    charged an_id 13 payer bytes r _ _ λ l _. inserted (plain (kind_of kind) payer bytes) payer (λ a. account.charge a bytes) r s.rising l)
 
 -- what `create` answers by what it could build; x where it could
 abbrev of_build : Registry → RegistryReply → rust.Built → RegistryReply
@@ -124,26 +129,34 @@ of_build r x rust.built = x
 of_build r x rust.no_backing = refuse 14 r
 of_build r x rust.no_method = refuse 13 r
 
-build_by : (b m4 m5 m7 backing : Bool) (r : Registry) (x : RegistryReply)
-    → cond (b || m4 || m5 || m7) (cond (not b || backing) x (refuse 14 r)) (refuse 13 r)
-    ≡ of_build r x (cond b (cond backing rust.built rust.no_backing) (cond (m4 || m5 || m7) rust.built rust.no_method))
-build_by true c d e true r x = refl
-build_by true c d e false r x = refl
-build_by false true d e k r x = refl
-build_by false false true e k r x = refl
-build_by false false false true k r x = refl
-build_by false false false false k r x = refl
+build_by : (ty : Kind) (backing : Bool) (r : Registry) (x : RegistryReply)
+    → cond (creatable ty) (cond (not (needs_backing ty) || backing) x (refuse 14 r)) (refuse 13 r) ≡ of_build r x (rust.build ty backing)
+build_by Thread k r x = refl
+build_by AddressSpace true r x = refl
+build_by AddressSpace false r x = refl
+build_by Frame true r x = refl
+build_by Frame false r x = refl
+build_by Endpoint k r x = refl
+build_by Notification k r x = refl
+build_by Budget k r x = refl
+build_by kinds.Reply k r x = refl
+build_by Irq k r x = refl
+build_by IrqControl k r x = refl
 
 -- `object_bytes` is 01's table
-object_bytes_is : (kind : ℕ) → rust.object_bytes kind ≡ bytes_of kind
-object_bytes_is kind = by (eqb kind 1) (eqb kind 2) (eqb kind 3) (eqb kind 4) (eqb kind 6)
-  where
-    by : (a b c d e : Bool) → ◌≡◌ {A = ℕ} (cond a 33_792 (cond b 16_384 (cond c 4_096 (cond d 128 (cond e 128 64))))) (cond a 33_792 (cond b 16_384 (cond c 4_096 (cond (d || e) 128 64))))
-    by a b c true e = refl
-    by a b c false e = refl
+object_bytes_is : (ty : Kind) → rust.object_bytes ty ≡ bytes_of ty
+object_bytes_is Thread = refl
+object_bytes_is AddressSpace = refl
+object_bytes_is Frame = refl
+object_bytes_is Endpoint = refl
+object_bytes_is Notification = refl
+object_bytes_is Budget = refl
+object_bytes_is kinds.Reply = refl
+object_bytes_is Irq = refl
+object_bytes_is IrqControl = refl
 
 -- x is what `insert` answers, once the charge is credited, to a payer that has room
-module _ (kind payer : ℕ) (r charged : Registry) (x : RegistryReply) (f : leb (bytes_of kind) (account.free (account_of r payer)) ≡ true)
+module _ (kind : Kind) (payer : ℕ) (r charged : Registry) (x : RegistryReply) (f : leb (bytes_of kind) (account.free (account_of r payer)) ≡ true)
     (back : rust.credit payer (bytes_of kind) charged ≡ r)
     (h : cond (leb (bytes_of kind) (account.free (account_of r payer))) x (refuse 12 r) ≡ reply_of an_id 13 (rust.insert payer kind (bytes_of kind) r)) where
   created : (b : rust.Built) → of_build r x b ≡ reply_of an_id 13 (rust.create_built b kind payer charged)
@@ -152,13 +165,15 @@ module _ (kind payer : ℕ) (r charged : Registry) (x : RegistryReply) (f : leb 
   created rust.no_method = rw (object_bytes_is kind, back)
 
 pub create_rust : (kind payer : ℕ) (backing : Bool) (r : Registry) → Sound r → added (r01.create kind payer backing r).number ≡ false
-    → r01.create kind payer backing r ≡ reply_of an_id 13 (rust.create kind payer backing r)
-create_rust kind payer backing r s = rw (object_bytes_is kind)
-    (skip 4 (listed kind) r refl λ _. skip 6 (has_place r) r refl λ _. skip 6 (has_next r) r refl λ _ _.
-    charged an_id 13 payer (bytes_of kind) r _ _ λ l f. build_by (needs_backing kind) (eqb kind 4) (eqb kind 5) (eqb kind 7) backing r _
-    ∙ created kind payer r _ _ f (credit_charged payer (bytes_of kind) r (account_of r payer) l ∙ write_same payer r l)
-    (paid an_id 13 payer (bytes_of kind) r _ _ l λ _. inserted (plain kind payer (bytes_of kind)) payer (λ a. account.charge a (bytes_of kind)) r s.rising l)
-    (rust.build kind backing))
+    → r01.create kind payer backing r ≡ of_type (rust.from_raw kind) (λ ty. reply_of an_id 13 (rust.create ty payer backing r)) r
+create_rust kind payer backing r s =
+    let ty : Kind = kind_of kind in
+    skip 4 (listed kind) r refl λ w. rw (from_raw_is kind w, object_bytes_is ty)
+    (skip 6 (has_place r) r refl λ _. skip 6 (has_next r) r refl λ _ _.
+    charged an_id 13 payer (bytes_of ty) r _ _ λ l f. build_by ty backing r _
+    ∙ created ty payer r _ _ f (credit_charged payer (bytes_of ty) r (account_of r payer) l ∙ write_same payer r l)
+    (paid an_id 13 payer (bytes_of ty) r _ _ l λ _. inserted (plain ty payer (bytes_of ty)) payer (λ a. account.charge a (bytes_of ty)) r s.rising l)
+    (rust.build ty backing))
 
 -- a renewal leaves free memory as it is
 free_renewed : (a : Account) (n t : ℕ) → account.free (account.charge (account.renew a t) n) ≡ account.free (account.charge a n)
@@ -179,14 +194,14 @@ create_budget_rust parent cpu memory time r s =
     (λ c. rw (c, alter_alter, credit_charged parent 128 r (account.renew a time) l, step_is parent r l (λ a. account.renew a time))))
 
 -- what stands under an id
-look : {C : Type 0} (o : Option Entry) → (o ≡ none → C) → (o ≡ some (or_missing o) → C) → C
-look none f g = f refl
-look (some e) f g = g refl
+look : {C : Type 0} (o : Option Entry) → (o ≡ None → C) → (o ≡ Some (or_missing o) → C) → C
+look None f g = f refl
+look (Some e) f g = g refl
 
 -- of an entry of a sound registry: its payer is a budget, whose account covers its charge
-module _ (r : Registry) (s : Sound r) (i : ℕ) (q : at r.rows i ≡ some (entry r i)) where
+module _ (r : Registry) (s : Sound r) (i : ℕ) (q : at r.rows i ≡ Some (entry r i)) where
   payer_there : is_budget r (payer_of r i) ≡ true
-  payer_there = eq-eqb (entry r (payer_of r i)).kind 6 (s.each i (entry r i) q).paid
+  payer_there = kind_shown (entry r (payer_of r i)).kind (s.each i (entry r i) q).paid
 
   covered : (entry r i).charge ≤ (account_of r (payer_of r i)).memory_used
   covered =
@@ -199,7 +214,7 @@ pub charge_more_rust : (i bytes : ℕ) (r : Registry) → Sound r → r01.charge
 charge_more_rust i bytes r s = look (at r.rows i) (λ q. rw q) λ q.
     let l = payer_there r s i q in
     rw q (paid nothing 13 (payer_of r i) bytes r _ _ l λ _.
-    ap (λ (t : Registry). accept {A = Value} none (object i (λ c. c + bytes) t)) (step_is (payer_of r i) r l (λ a. account.charge a bytes)))
+    ap (λ (t : Registry). accept {A = Value} None (object i (λ c. c + bytes) t)) (step_is (payer_of r i) r l (λ a. account.charge a bytes)))
 
 -- an entry's charge, as the Rust writes it
 abbrev recharge : (ℕ → ℕ) → Entry → Entry
@@ -221,10 +236,10 @@ credit_aside p n i f r l h =
     (ap (object i f) (step_is p r l (λ a. account.credit a n)))
 
 pub uncharge_rust : (i bytes : ℕ) (r : Registry) → Sound r → added_to_uncharge (r01.uncharge i bytes r).number ≡ false
-    → r01.uncharge i bytes r ≡ accept none (rust.uncharge i bytes r)
+    → r01.uncharge i bytes r ≡ accept None (rust.uncharge i bytes r)
 uncharge_rust i bytes r s = look (at r.rows i) (λ q. rw q (λ p. cc)) λ q.
     rw q (test (leb bytes (entry r i).charge)
-    (λ h. rw h λ _. ap (λ (t : Registry). accept {A = Value} none t)
+    (λ h. rw h λ _. ap (λ (t : Registry). accept {A = Value} None t)
     (credit_aside (payer_of r i) bytes i (λ c. c - bytes) r (payer_there r s i q) (omega (arith, covered r s i q, leb-true bytes (entry r i).charge h))))
     (λ h. rw h (λ p. cc)))
 
@@ -233,7 +248,7 @@ pub return_blank : (a : Account) → account.return a account.blank ≡ a
 return_blank a = rw (sub-zero a.cpu_reserved, sub-zero a.memory_reserved)
 
 -- an entry taken out, not the root's: its payer stays, so that its charge is credited there
-module _ (r : Registry) (s : Sound r) (i : ℕ) (q : at r.rows i ≡ some (entry r i)) (d : eqb i 1 ≡ false) where
+module _ (r : Registry) (s : Sound r) (i : ℕ) (q : at r.rows i ≡ Some (entry r i)) (d : eqb i 1 ≡ false) where
   abbrev payer : ℕ
   payer = payer_of r i
 
@@ -244,7 +259,7 @@ module _ (r : Registry) (s : Sound r) (i : ℕ) (q : at r.rows i ≡ some (entry
   stays = let h = (s.each i (entry r i) q).lower (eqb-false i 1 d) in at_erase_other r.rows i (payer_of r i) (λ w. omega arith)
 
   still_budget : is_budget left payer ≡ true
-  still_budget = ap (λ (o : Option Entry). eqb (or_missing o).kind 6) stays ∙ payer_there r s i q
+  still_budget = ap (λ (o : Option Entry). is_budget_kind (or_missing o).kind) stays ∙ payer_there r s i q
 
   same_account : account_of left payer ≡ account_of r payer
   same_account = ap (λ (o : Option Entry). (or_missing o).account) stays
@@ -266,7 +281,7 @@ module _ (r : Registry) (s : Sound r) (i : ℕ) (q : at r.rows i ≡ some (entry
 
   -- a child that can be returned, to the payer as it is or renewed
   returned : (now : ℕ) → account.returnable (account_of r payer) (account_of r i) ≡ true
-      → accept none (r01.budget payer (λ a. account.credit (account.return (account.renew a now) (account_of r i)) (entry r i).charge) left)
+      → accept None (r01.budget payer (λ a. account.credit (account.return (account.renew a now) (account_of r i)) (entry r i).charge) left)
       ≡ reply_of nothing 15 (rust.remove_budget (λ parent. (budget.refill parent now).self) (rust.budget_mut payer left) i (entry r i) left)
   returned now t =
       rw (
@@ -277,7 +292,7 @@ module _ (r : Registry) (s : Sound r) (i : ℕ) (q : at r.rows i ≡ some (entry
         release_child_by (account.renew (account_of r payer) now) (account_of r i),
         returnable_renewed (account_of r payer) (account_of r i) now,
         t,
-      ) (ap (λ (x : Registry). accept {A = Value} none x) (credited (λ a. account.renew a now) (account_of r i) (renewal (account_of r payer) now).used))
+      ) (ap (λ (x : Registry). accept {A = Value} None x) (credited (λ a. account.renew a now) (account_of r i) (renewal (account_of r payer) now).used))
 
   -- the Rust's own removal, where the payer is not due
   not_due : (now : ℕ) → account.due (account_of r payer) now ≡ false
@@ -296,15 +311,15 @@ pays_is i (e ∷ m) = ap (λ (b : Bool). (not (eqb e.id i) && eqb e.it.payer i) 
 
 pub remove_rust : (i time : ℕ) (r : Registry) → Sound r → r01.remove i time r ≡ reply_of nothing 15 (rust.remove i time r)
 remove_rust i time r s = look (at r.rows i)
-    (λ q. let root : (or_missing (at r.rows 1)).kind ≡ 6 = s.root in
-    let d : eqb i 1 ≡ false = ne_eqb i 1 (λ w. let z : ◌≡◌ {A = ℕ} 0 6 = cc in omega arith) in rw (q, d))
+    (λ q. let root : (or_missing (at r.rows 1)).kind ≡ Budget = s.root in
+    let d : eqb i 1 ≡ false = ne_eqb i 1 (λ w. kind_apart IrqControl refl cc) in rw (q, d))
     λ q. rw q (test (eqb i 1) (λ d. rw d) (λ d. rw d
     (test (is_budget r i)
     (λ b. test (r01.pays_for r i)
     (λ w. let w' = sym (pays_is i r.rows) ∙ w in rw (b, w, w'))
     (λ w. let w' = sym (pays_is i r.rows) ∙ w in
     let t = removal_returnable r i s (ap r01.found q) (eqb-false i 1 d) b w in rw (b, w, w') (returned r s i q d time t)))
-    (λ b. rw b (ap (λ (x : Registry). accept {A = Value} none x) (plain_credited r s i q d b))))))
+    (λ b. rw b (ap (λ (x : Registry). accept {A = Value} None x) (plain_credited r s i q d b))))))
 
 -- P2 changes nothing else: where no budget is removed, or one whose payer is not due, that is carv-os' own removal
 remove_unrenewed_is : (i time : ℕ) (r : Registry) → Sound r
@@ -335,7 +350,7 @@ pays_aside i p x (r ∷ m) = test (eqb r.id p)
 refilled_is : (p time : ℕ) (r : Registry) → is_budget r p ≡ true → (rust.refill p time r).self ≡ write p (account.renew (account_of r p) time) r
 refilled_is p time r l = rw (budget_mut_is p r, l, refill_renews)
 
-module _ (r : Registry) (s : Sound r) (i : ℕ) (q : at r.rows i ≡ some (entry r i)) (d : eqb i 1 ≡ false) (time : ℕ)
+module _ (r : Registry) (s : Sound r) (i : ℕ) (q : at r.rows i ≡ Some (entry r i)) (d : eqb i 1 ≡ false) (time : ℕ)
     (t : account.returnable (account_of r (payer_of r i)) (account_of r i) ≡ true) where
   apart : i ≡ payer_of r i → ⊥
   apart w = let h = (s.each i (entry r i) q).lower (eqb-false i 1 d) in omega arith
@@ -343,7 +358,7 @@ module _ (r : Registry) (s : Sound r) (i : ℕ) (q : at r.rows i ≡ some (entry
   abbrev refilled : Registry
   refilled = write (payer_of r i) (account.renew (account_of r (payer_of r i)) time) r
 
-  same_entry : at refilled.rows i ≡ some (entry r i)
+  same_entry : at refilled.rows i ≡ Some (entry r i)
   same_entry = at_alter_other r.rows (payer_of r i) i _ (λ w. apart (sym w)) ∙ q
 
   same_left : drop i refilled ≡ write (payer_of r i) (account.renew (account_of r (payer_of r i)) time) (drop i r)
@@ -353,7 +368,7 @@ module _ (r : Registry) (s : Sound r) (i : ℕ) (q : at r.rows i ≡ some (entry
   returned_account = account.return (account.renew (account_of r (payer_of r i)) time) (account_of r i)
 
   refilled_returned : rust.remove_budget (λ parent. parent) (rust.budget_mut (payer_of r i) (drop i refilled)) i (entry r i) (drop i refilled)
-      ≡ rust.gives (rust.credit (payer_of r i) (entry r i).charge (write (payer_of r i) returned_account (drop i r))) (rust.ok tt)
+      ≡ rust.gives (rust.credit (payer_of r i) (entry r i).charge (write (payer_of r i) returned_account (drop i r))) (Ok tt)
   refilled_returned =
       ap (λ (z : Registry). rust.remove_budget (λ parent. parent) (rust.budget_mut (payer_of r i) z) i (entry r i) z) same_left
       ∙ ap (λ (o : Option Account). rust.remove_budget (λ parent. parent) o i (entry r i) (write (payer_of r i) (account.renew (account_of r (payer_of r i)) time) (drop i r)))
@@ -362,7 +377,7 @@ module _ (r : Registry) (s : Sound r) (i : ℕ) (q : at r.rows i ≡ some (entry
         release_child_by (account.renew (account_of r (payer_of r i)) time) (account_of r i),
         returnable_renewed (account_of r (payer_of r i)) (account_of r i) time,
         t,
-      ) (ap (λ (z : Registry). rust.gives {A = Unit {0}} (rust.credit (payer_of r i) (entry r i).charge z) (rust.ok tt)) (write_write (payer_of r i) _ _ (drop i r)))
+      ) (ap (λ (z : Registry). rust.gives {A = Unit {0}} (rust.credit (payer_of r i) (entry r i).charge z) (Ok tt)) (write_write (payer_of r i) _ _ (drop i r)))
 
   both_returned : rust.remove_budget (λ parent. (budget.refill parent time).self) (rust.budget_mut (payer_of r i) (drop i r)) i (entry r i) (drop i r)
       ≡ rust.remove_budget (λ parent. parent) (rust.budget_mut (payer_of r i) (drop i refilled)) i (entry r i) (drop i refilled)
@@ -401,7 +416,7 @@ charge_cpu_rust i ns time r = test (is_budget r i)
     (λ c. rw (c, step_is i r l (λ a. account.renew a time)))))
     (λ l. rw (budget_mut_is i r, l))
 
-pub pays_for_anything_rust : (i : ℕ) (r : Registry) → r01.pays_for_anything i r ≡ accept (some (pays (rust.pays_for_anything i r))) r
+pub pays_for_anything_rust : (i : ℕ) (r : Registry) → r01.pays_for_anything i r ≡ accept (Some (pays (rust.pays_for_anything i r))) r
 pays_for_anything_rust i r = rw (pays_is i r.rows)
 
 pub read_account_rust : (i : ℕ) (r : Registry) → r01.read_account i r ≡ reading_of of_account (rust.budget_mut i r) r
@@ -411,7 +426,7 @@ pub charge_of_rust : (i : ℕ) (r : Registry) → r01.charge_of i r ≡ reading_
 charge_of_rust i r = look (at r.rows i) (λ q. rw q) (λ q. rw q)
 
 -- P1's reading, which the Rust lacks, leaves the registry as it was, accepted or refused
-pub read_totals_rust : (i : ℕ) (r : Registry) → without_answer (read_totals i r) ≡ accept none r
+pub read_totals_rust : (i : ℕ) (r : Registry) → without_answer (read_totals i r) ≡ accept None r
 read_totals_rust i r = test (is_budget r i) (λ l. rw l) (λ l. rw l)
 
 pub opening_rust : (cpu memory : ℕ) → cpu ≤ account.period → r01.opening cpu memory ≡ rust.new cpu memory

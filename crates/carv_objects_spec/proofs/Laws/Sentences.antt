@@ -1,11 +1,15 @@
 -- Demand 3's lines sentence by sentence, for lists of the registry's calls: each theorem is one clause, with the fields written out, and is drawn from the claims of
 -- History.antt. A `line` or `figures` that said less would be refused here. The board's Sentences.antt stands on this file. Assumes nothing.
-use Rattle.std.specs.Prelude.{◌≡◌, refl, true, List, ◌∷◌, ℕ, ◌+◌, ◌-◌, ◌≤◌, eqb}
-use Rattle.std.proofs.Common.{sym, ap, subst, ◌∙◌, eqb-true, eq-eqb}
+use Rattle.std.specs.Prelude.{◌≡◌, refl, true, List, ◌∷◌, ℕ, ◌+◌, ◌-◌, ◌≤◌, Option, Some, None}
+use Rattle.std.proofs.Common.{sym, ap, subst, ◌∙◌}
 use Rattle.std.proofs.lemmas.Bool.{false≢true}
-use Rattle.std.proofs.Math.Option.{Option, none, some}
 use Rattle.carv_area.specs.Table.{at}
 use Rattle.carv_budget.specs.declared.Account.{Account}
+use Rattle.carv_objects_spec.specs.declared.kind.Kind.{Kind}
+use Rattle.carv_objects_spec.specs.declared.kind.Kind.TheVariants as kinds
+use Rattle.carv_objects_spec.specs.declared.kind.Kind.{Kind}
+use Rattle.carv_objects_spec.specs.Kinds.{is_budget_kind}
+use Rattle.carv_objects_spec.proofs.Laws.Kinds.{kind_told, kind_shown}
 use Rattle.carv_objects_spec.specs.declared.Entry.{Entry}
 use Rattle.carv_objects_spec.specs.Registry.{Registry, or_missing, is_budget, account_of, opening}
 use Rattle.carv_objects_spec.specs.Book as book
@@ -80,12 +84,12 @@ module _ {b b' : Budget} where
 pub record Live (r : Registry) (k : Book) (i : ℕ) (a : Account) (b : Budget) : Type 0 where
   pub payer : ℕ
   pub charge : ℕ
-  pub in_registry : at r.rows i ≡ some (record { kind = 6; payer = payer; charge = charge; account = a })
-  pub in_book : at k.budgets i ≡ some b
+  pub in_registry : at r.rows i ≡ Some (record { kind = kinds.Budget; payer = payer; charge = charge; account = a })
+  pub in_book : at k.budgets i ≡ Some b
 
 module _ (r : Registry) (k : Book) (i : ℕ) where
   pub is_live_budget : {a : Account} {b : Budget} → Live r k i a b → is_budget r i ≡ true
-  is_live_budget L = ap (λ (o : Option Entry). eqb (or_missing o).kind 6) L.in_registry
+  is_live_budget L = ap (λ (o : Option Entry). is_budget_kind (or_missing o).kind) L.in_registry
 
   -- claims on what is read of a budget are claims on what stands there
   pub read_told : (P : Account → Budget → Type 0) {a : Account} {b : Budget} → Live r k i a b → P (account_of r i) (budget_of k i) → P a b
@@ -95,31 +99,31 @@ module _ (r : Registry) (k : Book) (i : ℕ) where
 
   module _ (same : is_live k i ≡ is_budget r i) where
     -- the entry of a budget, its kind written out
-    six_is : (e : Entry) → at r.rows i ≡ some e → e.kind ≡ 6
-        → at r.rows i ≡ some (record { kind = 6; payer = e.payer; charge = e.charge; account = e.account })
-    six_is e here six = here ∙ ap {B = Option Entry} (λ (x : ℕ). some (record { kind = x; payer = e.payer; charge = e.charge; account = e.account })) six
+    six_is : (e : Entry) → at r.rows i ≡ Some e → e.kind ≡ kinds.Budget
+        → at r.rows i ≡ Some (record { kind = kinds.Budget; payer = e.payer; charge = e.charge; account = e.account })
+    six_is e here six = here ∙ ap {B = Option Entry} (λ (x : Kind). Some (record { kind = x; payer = e.payer; charge = e.charge; account = e.account })) six
 
     -- a budget of the registry is one of the book, and one of the book is one of the registry
-    pub live_in_book : (e : Entry) → at r.rows i ≡ some e → e.kind ≡ 6 → (b : Budget) × Live r k i e.account b
+    pub live_in_book : (e : Entry) → at r.rows i ≡ Some e → e.kind ≡ kinds.Budget → (b : Budget) × Live r k i e.account b
     live_in_book e here six = go (at k.budgets i) refl
       where
         live : is_live k i ≡ true
-        live = same ∙ ap (λ (o : Option Entry). eqb (or_missing o).kind 6) here ∙ eq-eqb e.kind 6 six
+        live = same ∙ ap (λ (o : Option Entry). is_budget_kind (or_missing o).kind) here ∙ kind_shown e.kind six
 
         go : (o : Option Budget) → at k.budgets i ≡ o → (b : Budget) × Live r k i e.account b
-        go none q = absurd (false≢true (sym (ap book.is_some q) ∙ live))
-        go (some b) q = (b, record { payer = e.payer; charge = e.charge; in_registry = six_is e here six; in_book = q })
+        go None q = absurd (false≢true (sym (ap book.is_some q) ∙ live))
+        go (Some b) q = (b, record { payer = e.payer; charge = e.charge; in_registry = six_is e here six; in_book = q })
 
-    pub live_in_registry : (b : Budget) → at k.budgets i ≡ some b → (a : Account) × Live r k i a b
+    pub live_in_registry : (b : Budget) → at k.budgets i ≡ Some b → (a : Account) × Live r k i a b
     live_in_registry b here = go (at r.rows i) refl
       where
         live : is_budget r i ≡ true
         live = sym same ∙ ap book.is_some here
 
         go : (o : Option Entry) → at r.rows i ≡ o → (a : Account) × Live r k i a b
-        go none q = absurd (false≢true (sym (ap (λ (o : Option Entry). eqb (or_missing o).kind 6) q) ∙ live))
-        go (some e) q =
-            let six = eqb-true e.kind 6 (sym (ap (λ (o : Option Entry). eqb (or_missing o).kind 6) q) ∙ live) in
+        go None q = absurd (false≢true (sym (ap (λ (o : Option Entry). is_budget_kind (or_missing o).kind) q) ∙ live))
+        go (Some e) q =
+            let six = kind_told e.kind (sym (ap (λ (o : Option Entry). is_budget_kind (or_missing o).kind) q) ∙ live) in
             (e.account, record { payer = e.payer; charge = e.charge; in_registry = six_is e q six; in_book = here })
 
 -- Lists: each call is made on the registry that the one before left, and the book is written from the call and its refusal number.
@@ -136,11 +140,11 @@ book_opened cs cpu memory = refl
 
 -- "Each live budget's line is the book's four figures", and the live budgets are the same.
 module _ (cs : List Call) (cpu memory : ℕ) (h : cpu ≤ 10_000_000) (i : ℕ) where
-  pub budget_in_book : (e : Entry) → at (after cs (opening cpu memory)).rows i ≡ some e → e.kind ≡ 6
+  pub budget_in_book : (e : Entry) → at (after cs (opening cpu memory)).rows i ≡ Some e → e.kind ≡ kinds.Budget
       → (b : Budget) × Live (after cs (opening cpu memory)) (book_after cs cpu memory) i e.account b
   budget_in_book = live_in_book (after cs (opening cpu memory)) (book_after cs cpu memory) i (live_are_budgets cpu memory h cs i)
 
-  pub budget_in_registry : (b : Budget) → at (book_after cs cpu memory).budgets i ≡ some b
+  pub budget_in_registry : (b : Budget) → at (book_after cs cpu memory).budgets i ≡ Some b
       → (a : Account) × Live (after cs (opening cpu memory)) (book_after cs cpu memory) i a b
   budget_in_registry = live_in_registry (after cs (opening cpu memory)) (book_after cs cpu memory) i (live_are_budgets cpu memory h cs i)
 

@@ -8,6 +8,8 @@ use Rattle.carv_area.specs.Laws.Table.{All, test}
 use Rattle.carv_budget.specs.declared.Account.{Account}
 use Rattle.carv_budget.specs.Account as account
 use Rattle.carv_budget.proofs.Laws.Account as account_laws
+use Rattle.carv_objects_spec.specs.Kinds.{is_budget_kind}
+use Rattle.carv_objects_spec.proofs.Laws.Kinds.{kind_told, kind_shown}
 use Rattle.carv_objects_spec.specs.declared.Entry.{Entry}
 use Rattle.carv_objects_spec.specs.Registry.{Registry}
 use Rattle.carv_objects_spec.specs.Sound.{all, every, rises, kind_at, charge_by, memory_by, cpu_by, is_blank, entry_tests, registry_tests, sound}
@@ -73,17 +75,16 @@ account_sound F = account_laws.sound_shown (record { memory = F.memory; cpu = F.
 entry_told : (m : List (Row Entry)) (i : ℕ) (e : Entry) → all (entry_tests m i e) ≡ true → SoundEntry m i e
 entry_told m i e h =
     let a = e.account in
-    let (code, (plain, (place, (paid, (used, (memory, (cpu, (alone, z)))))))) = all_told (entry_tests m i e) h in
+    let (plain, (place, (paid, (used, (memory, (cpu, (alone, z))))))) = all_told (entry_tests m i e) h in
     let s = account_laws.sound_told alone in
     record {
-      code = code;
-      plain = λ k. blank_told a (either (eqb e.kind 6) (is_blank a) plain k);
+      plain = λ k. blank_told a (either (is_budget_kind e.kind) (is_blank a) plain k);
       root = λ q. (let p = rw (eq-eqb i 1 q) at place in
-          let k = account_laws.first (eqb e.kind 6) (eqb e.payer 1) p in
-          let l = account_laws.second (eqb e.kind 6) (eqb e.payer 1) p in
-          (eqb-true e.kind 6 k, eqb-true e.payer 1 l));
+          let k = account_laws.first (is_budget_kind e.kind) (eqb e.payer 1) p in
+          let l = account_laws.second (is_budget_kind e.kind) (eqb e.payer 1) p in
+          (kind_told e.kind k, eqb-true e.payer 1 l));
       lower = λ q. ltb-true e.payer i (rw (ne_eqb i 1 q) at place);
-      paid = eqb-true (kind_at m e.payer) 6 paid;
+      paid = kind_told (kind_at m e.payer) paid;
       used = eqb-true a.memory_used (total (charge_by i) m) used;
       memory_reserved = eqb-true a.memory_reserved (total (memory_by i) m) memory;
       cpu_reserved = eqb-true a.cpu_reserved (total (cpu_by i) m) cpu;
@@ -95,15 +96,15 @@ entry_told m i e h =
 entry_shown : (m : List (Row Entry)) (i : ℕ) (e : Entry) → SoundEntry m i e → all (entry_tests m i e) ≡ true
 entry_shown m i e F =
     let a = e.account in
-    let plain : (eqb e.kind 6 || is_blank a) ≡ true = test (eqb e.kind 6) (λ k. rw k) (λ k. rw (k, F.plain k)) in
-    let place : cond (eqb i 1) (eqb e.kind 6 && eqb e.payer 1) (ltb e.payer i) ≡ true = test (eqb i 1)
-    (λ k. let (x, y) = F.root (eqb-true i 1 k) in rw (k, eq-eqb e.kind 6 x, eq-eqb e.payer 1 y))
+    let plain : (is_budget_kind e.kind || is_blank a) ≡ true = test (is_budget_kind e.kind) (λ k. rw k) (λ k. rw (k, F.plain k)) in
+    let place : cond (eqb i 1) (is_budget_kind e.kind && eqb e.payer 1) (ltb e.payer i) ≡ true = test (eqb i 1)
+    (λ k. let (x, y) = F.root (eqb-true i 1 k) in rw (k, kind_shown e.kind x, eq-eqb e.payer 1 y))
     (λ k. rw k (lt-ltb e.payer i (F.lower (eqb-false i 1 k)))) in
-    let paid = eq-eqb (kind_at m e.payer) 6 F.paid in
+    let paid = kind_shown (kind_at m e.payer) F.paid in
     let used = eq-eqb a.memory_used (total (charge_by i) m) F.used in
     let memory = eq-eqb a.memory_reserved (total (memory_by i) m) F.memory_reserved in
     let cpu = eq-eqb a.cpu_reserved (total (cpu_by i) m) F.cpu_reserved in
-    all_shown (entry_tests m i e) (F.code, (plain, (place, (paid, (used, (memory, (cpu, (account_sound F, tt))))))))
+    all_shown (entry_tests m i e) (plain, (place, (paid, (used, (memory, (cpu, (account_sound F, tt)))))))
 
 pub sound_told : (r : Registry) → sound r ≡ true → Sound r
 sound_told r h =
@@ -111,7 +112,7 @@ sound_told r h =
     record {
       few = leb-true (length r.rows) 512 few;
       rising = rises_told r.rows 1 r.next rising;
-      root = eqb-true (kind_at r.rows 1) 6 root;
+      root = kind_told (kind_at r.rows 1) root;
       each = λ i e at_i. entry_told r.rows i e
           (Table.at_all (λ i e. all (entry_tests r.rows i e) ≡ true) r.rows
           (every_told (λ i e. all (entry_tests r.rows i e)) r.rows each) i e at_i);
@@ -124,5 +125,5 @@ sound_shown r s =
     (λ i e h. entry_shown r.rows i e (s.each i e h))) in
     all_shown (registry_tests r) (
       le-leb (length r.rows) 512 s.few,
-      (rises_shown r.rows 1 r.next s.rising, (eq-eqb (kind_at r.rows 1) 6 s.root, (each, tt))),
+      (rises_shown r.rows 1 r.next s.rising, (kind_shown (kind_at r.rows 1) s.root, (each, tt))),
     )

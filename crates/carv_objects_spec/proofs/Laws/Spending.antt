@@ -1,8 +1,7 @@
 -- P3's invariant on a registry and its ledger, and the steps that keep it: the clock moves on, an entry changes, is added or goes, CPU time is charged. Assumes nothing.
-use Rattle.std.specs.Prelude.{◌≡◌, refl, Bool, true, false, cond, not, List, [], ◌∷◌, ℕ, zero, suc, ◌+◌, ◌-◌, ◌*◌, ◌/◌, ◌%◌, ◌≤◌, ◌<◌, eqb, leb}
+use Rattle.std.specs.Prelude.{◌≡◌, refl, Bool, true, false, cond, not, List, [], ◌∷◌, ℕ, zero, suc, ◌+◌, ◌-◌, ◌*◌, ◌/◌, ◌%◌, ◌≤◌, ◌<◌, eqb, leb, Option, Some, None}
 use Rattle.std.proofs.Common.{sym, ◌∙◌, ap, subst, arith, zero-add, eqb-true, eq-eqb, ne_eqb, leb-true, leb-false, le-leb}
 use Rattle.std.proofs.lemmas.Bool.{false≢true, eqb-false, not-true}
-use Rattle.std.proofs.Math.Option.{Option, none, some}
 use Rattle.carv_area.specs.Laws.Table
 use Rattle.carv_area.specs.Table.{Row, at, alter, erase, total, Rising}
 use Rattle.carv_area.specs.Laws.Table.{All, test}
@@ -11,6 +10,7 @@ use Rattle.carv_budget.specs.declared.Account.{Account}
 use Rattle.carv_budget.specs.Account as account
 use Rattle.carv_budget.specs.Account.{period, renew, due, with_cpu}
 use Rattle.carv_budget.proofs.Laws.Account as account_laws
+use Rattle.carv_objects_spec.specs.declared.kind.Kind.TheVariants.{Budget}
 use Rattle.carv_objects_spec.specs.declared.Entry.{Entry}
 use Rattle.carv_objects_spec.specs.Registry.{Registry, or_missing, on_account, budget, drop, add}
 use Rattle.carv_objects_spec.specs.Sound.{kind_at, is_child, cpu_by}
@@ -21,8 +21,8 @@ use Rattle.carv_objects_spec.specs.Ledger.{Carved, Charge, Ledger, under, spent_
 
 -- the clock after a call: its value, or the last one
 abbrev pub after_clock : (last : ℕ) → Option ℕ → ℕ
-after_clock last none = last
-after_clock last (some time) = time
+after_clock last None = last
+after_clock last (Some time) = time
 
 -- Accounts. In period p an account holds, of its allowance, what is not yet charged to it: all of it where it is not renewed in p, else CPU left and CPU reserved.
 
@@ -85,8 +85,8 @@ renewed_start a t h S = let q = (renewed a t h S).start in record { whole = omeg
 pub record InLedger (r : Registry) (b : ℕ) (x : Carved) : Type 0 where
   pub taken : b < r.next
   pub lower : x.parent ≤ b
-  pub payer : (e : Entry) → at r.rows b ≡ some e → e.kind ≡ 6 → x.parent ≡ e.payer
-  pub allowance : (e : Entry) → at r.rows b ≡ some e → e.kind ≡ 6 → x.allowance ≡ e.account.cpu_allowance
+  pub payer : (e : Entry) → at r.rows b ≡ Some e → e.kind ≡ Budget → x.parent ≡ e.payer
+  pub allowance : (e : Entry) → at r.rows b ≡ Some e → e.kind ≡ Budget → x.allowance ≡ e.account.cpu_allowance
 
 -- those above a budget have ids not above its own
 under_le : (r : Registry) (m : List (Row Carved)) → All (InLedger r) m → (b i : ℕ) → under m b i ≡ true → b ≤ i
@@ -104,13 +104,13 @@ under_step x m b i p q parent h = rw (q, parent) (or_true (eqb i b) h)
 record ChildAbove (r : Registry) (m : List (Row Carved)) (b i : ℕ) : Type 0 where
   child : ℕ
   entry : Entry
-  here : at r.rows child ≡ some entry
+  here : at r.rows child ≡ Some entry
   payer : entry.payer ≡ b
   apart : child ≡ b → ⊥
   above : under m child i ≡ true
 
 -- those above a live budget are live: each has a live child on the way
-climb : (r : Registry) → Sound r → (m : List (Row Carved)) → All (InLedger r) m → (b i : ℕ) (e : Entry) → at r.rows i ≡ some e → e.kind ≡ 6
+climb : (r : Registry) → Sound r → (m : List (Row Carved)) → All (InLedger r) m → (b i : ℕ) (e : Entry) → at r.rows i ≡ Some e → e.kind ≡ Budget
     → (i ≡ b → ⊥) → under m b i ≡ true → ChildAbove r m b i
 climb r s [] a b i e here kind apart h = absurd (false≢true h)
 climb r s (x ∷ m) a b i e here kind apart h = test (eqb x.id i)
@@ -180,11 +180,11 @@ module _ {A : Type 0} where
   all_both P Q R (x ∷ m) h a b = (h x.id x.it a.0 b.0, all_both P Q R m h a.1 b.1)
 
   -- one row weighs n more
-  total_more : (w v : ℕ → A → ℕ) (m : List (Row A)) (c : ℕ) (d : A) (n : ℕ) → at m c ≡ some d → ((i : ℕ) (a : A) → w i a ≤ v i a) → w c d + n ≤ v c d
+  total_more : (w v : ℕ → A → ℕ) (m : List (Row A)) (c : ℕ) (d : A) (n : ℕ) → at m c ≡ Some d → ((i : ℕ) (a : A) → w i a ≤ v i a) → w c d + n ≤ v c d
       → total w m + n ≤ total v m
   total_more w v [] c d n here h k = let z : ◌≡◌ {A = ℕ} 0 1 = cc in absurd (omega arith)
   total_more w v (x ∷ m) c d n here h k = test (eqb x.id c)
-      (λ e. let q = eqb-true x.id c e in let g : some x.it ≡ some d = rw e at here in let z : x.it ≡ d = cc in
+      (λ e. let q = eqb-true x.id c e in let g : Some x.it ≡ Some d = rw e at here in let z : x.it ≡ d = cc in
       rw (q, z) (omega (arith, total_le w v m (all_of (λ i a. w i a ≤ v i a) m h))))
       (λ e. omega (arith, h x.id x.it, total_more w v m c d n (rw e at here) h k))
 
@@ -202,8 +202,8 @@ abbrev pub Line : (s : ℕ → ℕ) (p : ℕ) → List (Row Entry) → (i : ℕ)
 Line s p rows i a = s i + held p a ≤ a.cpu_allowance + to_children s rows i
 
 -- so nothing live is overspent: from the latest id down, as children have higher ids
-pub bounded : (r : Registry) → Sound r → (s : ℕ → ℕ) (p : ℕ) → ((i : ℕ) (e : Entry) → at r.rows i ≡ some e → Line s p r.rows i e.account)
-    → (n i : ℕ) (e : Entry) → r.next ≤ i + n → at r.rows i ≡ some e → s i ≤ e.account.cpu_allowance
+pub bounded : (r : Registry) → Sound r → (s : ℕ → ℕ) (p : ℕ) → ((i : ℕ) (e : Entry) → at r.rows i ≡ Some e → Line s p r.rows i e.account)
+    → (n i : ℕ) (e : Entry) → r.next ≤ i + n → at r.rows i ≡ Some e → s i ≤ e.account.cpu_allowance
 bounded r o s p lines zero i e h here = absurd (omega (arith, below_next r o i e here))
 bounded r o s p lines (suc n) i e h here =
     let F = o.each i e here in
@@ -231,8 +231,8 @@ Settled l = All (λ b x. (p : ℕ) → spent l p b ≤ x.allowance) l.budgets
 pub record Balanced (r : Registry) (l : Ledger) (clock : ℕ) : Type 0 where
   pub budgets : All (InLedger r) l.budgets
   pub past : Past r.next clock l.charges
-  pub starts : (i : ℕ) (e : Entry) → at r.rows i ≡ some e → Start clock e.account
-  pub lines : (i : ℕ) (e : Entry) → at r.rows i ≡ some e → Line (spent l (clock / period)) (clock / period) r.rows i e.account
+  pub starts : (i : ℕ) (e : Entry) → at r.rows i ≡ Some e → Start clock e.account
+  pub lines : (i : ℕ) (e : Entry) → at r.rows i ≡ Some e → Line (spent l (clock / period)) (clock / period) r.rows i e.account
   pub settled : Settled l
 
 -- the clock moves on: within the period nothing changes, and in a later one nothing is charged yet and nothing renewed
@@ -267,8 +267,8 @@ pub record KeepsShare (g : Entry → Entry) : Type 0 where
 
 -- a ledger's budgets after such a change, and where entries are added above or go
 ledger_kept : (r r' : Registry) (m : List (Row Carved)) → r.next ≤ r'.next
-    → ((b : ℕ) (d : Entry) → b < r.next → at r'.rows b ≡ some d
-    → (e : Entry) × (at r.rows b ≡ some e) × (d.kind ≡ e.kind) × (d.payer ≡ e.payer) × (d.account.cpu_allowance ≡ e.account.cpu_allowance))
+    → ((b : ℕ) (d : Entry) → b < r.next → at r'.rows b ≡ Some d
+    → (e : Entry) × (at r.rows b ≡ Some e) × (d.kind ≡ e.kind) × (d.payer ≡ e.payer) × (d.account.cpu_allowance ≡ e.account.cpu_allowance))
     → All (InLedger r) m → All (InLedger r') m
 ledger_kept r r' m h was = all_map (InLedger r) (InLedger r') m (λ b x I. record {
   taken = omega (arith, I.taken);
@@ -280,10 +280,10 @@ ledger_kept r r' m h was = all_map (InLedger r) (InLedger r') m (λ b x I. recor
 abbrev pub altered : ℕ → (Entry → Entry) → Registry → Registry
 altered i g r = record { next = r.next; rows = alter i g r.rows }
 
-module _ (r : Registry) (i : ℕ) (y : Entry) (g : Entry → Entry) (here : at r.rows i ≡ some y) (k : KeepsShare g) where
+module _ (r : Registry) (i : ℕ) (y : Entry) (g : Entry → Entry) (here : at r.rows i ≡ Some y) (k : KeepsShare g) where
   -- what stands there now is the changed entry, or what stood there
-  pub alter_at : (P : ℕ → Entry → Type 0) → P i (g y) → ((j : ℕ) (d : Entry) → (i ≡ j → ⊥) → at r.rows j ≡ some d → P j d)
-      → (j : ℕ) (d : Entry) → at (altered i g r).rows j ≡ some d → P j d
+  pub alter_at : (P : ℕ → Entry → Type 0) → P i (g y) → ((j : ℕ) (d : Entry) → (i ≡ j → ⊥) → at r.rows j ≡ Some d → P j d)
+      → (j : ℕ) (d : Entry) → at (altered i g r).rows j ≡ Some d → P j d
   alter_at P one other j d h = test (eqb i j)
       (λ a. let q = eqb-true i j a in
       let z : g y ≡ d = cc (Table.at_alter r.rows i g y here) in
@@ -295,7 +295,7 @@ module _ (r : Registry) (i : ℕ) (y : Entry) (g : Entry → Entry) (here : at r
 
   alter_ledger : (m : List (Row Carved)) → All (InLedger r) m → All (InLedger (altered i g r)) m
   alter_ledger m = ledger_kept r (altered i g r) m (omega arith) (λ b d low h. alter_at
-      (λ b d. (e : Entry) × (at r.rows b ≡ some e) × (d.kind ≡ e.kind) × (d.payer ≡ e.payer) × (d.account.cpu_allowance ≡ e.account.cpu_allowance))
+      (λ b d. (e : Entry) × (at r.rows b ≡ Some e) × (d.kind ≡ e.kind) × (d.payer ≡ e.payer) × (d.account.cpu_allowance ≡ e.account.cpu_allowance))
       (y, here, k.kind y, k.payer y, k.allowance y) (λ j d apart h. (d, h, refl, refl, refl)) b d h)
 
   -- an entry changes, and holds no more than before
@@ -311,8 +311,8 @@ module _ (r : Registry) (i : ℕ) (y : Entry) (g : Entry → Entry) (here : at r
   }
 
 -- what stands there now is the added entry, or what stood there
-pub add_at : (r : Registry) (x : Entry) → Rising 1 r.next r.rows → (P : ℕ → Entry → Type 0) → P r.next x → ((j : ℕ) (d : Entry) → at r.rows j ≡ some d → P j d)
-    → (j : ℕ) (d : Entry) → at (add x r).rows j ≡ some d → P j d
+pub add_at : (r : Registry) (x : Entry) → Rising 1 r.next r.rows → (P : ℕ → Entry → Type 0) → P r.next x → ((j : ℕ) (d : Entry) → at r.rows j ≡ Some d → P j d)
+    → (j : ℕ) (d : Entry) → at (add x r).rows j ≡ Some d → P j d
 add_at r x up P one other j d h = test (eqb r.next j)
     (λ a. let q = eqb-true r.next j a in
     let z : x ≡ d = cc (Table.at_snoc r.rows r.next 0 x (Table.at_above r.rows 1 r.next r.next up (omega arith))) in
@@ -343,7 +343,7 @@ note_step r x l T up low W A =
     let l' = note_budget r.next x.payer x.account.cpu_allowance l in
     let same : (q b : ℕ) → spent l' q b ≡ spent l q b = λ q b.
     among_new l.budgets r.next T (record { parent = x.payer; allowance = x.account.cpu_allowance }) l.charges q b W.past in
-    let new : at (add x r).rows r.next ≡ some x = Table.at_snoc r.rows r.next 0 x (Table.at_above r.rows 1 r.next r.next up (omega arith)) in
+    let new : at (add x r).rows r.next ≡ Some x = Table.at_snoc r.rows r.next 0 x (Table.at_above r.rows 1 r.next r.next up (omega arith)) in
     record {
       budgets = (
         record {
@@ -365,7 +365,7 @@ note_step r x l T up low W A =
     }
 
 -- what stands there now stood there
-pub erase_at : (r : Registry) (i : ℕ) → Rising 1 r.next r.rows → (j : ℕ) (d : Entry) → at (drop i r).rows j ≡ some d → at r.rows j ≡ some d
+pub erase_at : (r : Registry) (i : ℕ) → Rising 1 r.next r.rows → (j : ℕ) (d : Entry) → at (drop i r).rows j ≡ Some d → at r.rows j ≡ Some d
 erase_at r i up j d h = test (eqb i j)
     (λ a. let gone = Table.at_erase r.rows 1 r.next i up in
     let q = eqb-true i j a in
@@ -373,8 +373,8 @@ erase_at r i up j d h = test (eqb i j)
     (λ a. sym (Table.at_erase_other r.rows i j (eqb-false i j a)) ∙ h)
 
 -- an entry goes, whose payer gives up what was charged to it
-pub erase_step : (r : Registry) (i : ℕ) (e : Entry) (l : Ledger) (T : ℕ) → Rising 1 r.next r.rows → at r.rows i ≡ some e
-    → ((y : Entry) → at r.rows e.payer ≡ some y
+pub erase_step : (r : Registry) (i : ℕ) (e : Entry) (l : Ledger) (T : ℕ) → Rising 1 r.next r.rows → at r.rows i ≡ Some e
+    → ((y : Entry) → at r.rows e.payer ≡ Some y
     → spent l (T / period) e.payer + held (T / period) y.account + spent l (T / period) i ≤ y.account.cpu_allowance + to_children (spent l (T / period)) r.rows e.payer)
     → Balanced r l T → Balanced (drop i r) l T
 erase_step r i e l T up here spare W =
@@ -389,7 +389,7 @@ erase_step r i e l T up here spare W =
           test (is_child j i e)
           (λ c. let q = eqb-true e.payer j (account_laws.first (eqb e.payer j) (not (eqb i j)) c) in
           let t' : total (by_child s j) (erase i r.rows) + s i ≡ total (by_child s j) r.rows = rw c at t in
-          let there : at r.rows e.payer ≡ some d = rw q (old j d h) in
+          let there : at r.rows e.payer ≡ Some d = rw q (old j d h) in
           let k : s j + held (T / period) d.account + s i ≤ d.account.cpu_allowance + to_children s r.rows j = rw q at (spare d there) in
           omega arith)
           (λ c. let t' : total (by_child s j) (erase i r.rows) + 0 ≡ total (by_child s j) r.rows = rw c at t in
@@ -439,7 +439,7 @@ module _ (r : Registry) (o : Sound r) (l : Ledger) (i ns t : ℕ) (e : Entry) (B
       total_more (by_child before j) (by_child now j) r.rows C.child C.entry ns C.here (now_more j)
       (rw child (omega (arith, now_above C.child C.above)))
 
-  charge_lines : (j : ℕ) (d : Entry) → at (budget i f r).rows j ≡ some d → Line now (t / period) (budget i f r).rows j d.account
+  charge_lines : (j : ℕ) (d : Entry) → at (budget i f r).rows j ≡ Some d → Line now (t / period) (budget i f r).rows j d.account
   charge_lines = alter_at r i e (on_account f) B.here k (λ j d. Line now (t / period) (budget i f r).rows j d.account)
       (omega (arith, W.lines i e B.here, alter_children r i e (on_account f) B.here k now i, children_more i, now_most i, k.allowance e))
       (λ j d apart h. test (under l.budgets j i)
@@ -447,7 +447,7 @@ module _ (r : Registry) (o : Sound r) (l : Ledger) (i ns t : ℕ) (e : Entry) (B
       (λ a. omega (arith, W.lines j d h, alter_children r i e (on_account f) B.here k now j, children_more j, now_aside j a)))
 
   -- a budget above i, or i itself, is live
-  above_live : (b : ℕ) → under l.budgets b i ≡ true → kind_at r.rows b ≡ 6
+  above_live : (b : ℕ) → under l.budgets b i ≡ true → kind_at r.rows b ≡ Budget
   above_live b h = test (eqb i b)
       (λ a. rw (← eqb-true i b a) (ap (λ (x : Option Entry). (or_missing x).kind) B.here ∙ B.kind))
       (λ a. let C = climb r o l.budgets W.budgets b i e B.here B.kind (eqb-false i b a) h in

@@ -1,7 +1,6 @@
 -- Four steps that keep a registry sound: a budget's account moves, an entry is added, an entry's charge moves, an entry is removed. Assumes nothing.
-use Rattle.std.specs.Prelude.{◌≡◌, refl, Bool, true, false, cond, not, ◌&&◌, List, [], ◌∷◌, ℕ, ◌+◌, ◌<◌, eqb, ltb, length}
+use Rattle.std.specs.Prelude.{◌≡◌, refl, Bool, true, false, cond, not, ◌&&◌, List, [], ◌∷◌, ℕ, ◌+◌, ◌<◌, eqb, ltb, length, Option, Some, None}
 use Rattle.std.proofs.Common.{sym, ◌∙◌, ap, arith, length-append, eqb-true, eq-eqb, ne_eqb, ltb-true, ltb-false}
-use Rattle.std.proofs.Math.Option.{Option, none, some}
 use Rattle.std.proofs.lemmas.Bool.{eqb-false}
 use Rattle.carv_area.specs.Laws.Table
 use Rattle.carv_area.specs.Table.{Row, at, alter, total}
@@ -9,33 +8,36 @@ use Rattle.carv_area.specs.Laws.Table.{test}
 use Rattle.carv_budget.specs.declared.Account.{Account}
 use Rattle.carv_budget.specs.Account as account
 use Rattle.carv_budget.proofs.Laws.Account as account_laws
+use Rattle.carv_objects_spec.specs.declared.kind.Kind.TheVariants.{Budget, IrqControl}
+use Rattle.carv_objects_spec.specs.Kinds.{is_budget_kind}
+use Rattle.carv_objects_spec.proofs.Laws.Kinds.{kind_apart}
 use Rattle.carv_objects_spec.specs.declared.Entry.{Entry}
-use Rattle.carv_objects_spec.specs.Registry.{Registry, or_missing, entry, on_account, on_charge, budget, object, drop, add, listed}
+use Rattle.carv_objects_spec.specs.Registry.{Registry, or_missing, entry, on_account, on_charge, budget, object, drop, add}
 use Rattle.carv_objects_spec.specs.Sound.{kind_at, charge_by, memory_by, cpu_by}
 use Rattle.carv_objects_spec.proofs.Laws.SoundFacts.{SoundEntry, Sound}
 
 -- i is a live budget, its entry e
 pub record BudgetEntry (r : Registry) (i : ℕ) (e : Entry) : Type 0 where
-  pub here : at r.rows i ≡ some e
-  pub kind : e.kind ≡ 6
+  pub here : at r.rows i ≡ Some e
+  pub kind : e.kind ≡ Budget
   pub read : entry r i ≡ e
 
-pub budget_entry : (r : Registry) (i : ℕ) → kind_at r.rows i ≡ 6 → (e : Entry) × BudgetEntry r i e
+pub budget_entry : (r : Registry) (i : ℕ) → kind_at r.rows i ≡ Budget → (e : Entry) × BudgetEntry r i e
 budget_entry r i h = go (at r.rows i) refl
   where
     go : (o : Option Entry) → at r.rows i ≡ o → (e : Entry) × BudgetEntry r i e
-    go none q = let b : ◌≡◌ {A = ℕ} 0 6 = rw (q, kind_at) at h in absurd (omega arith)
-    go (some e) q = (e, record { here = q; kind = rw (q, kind_at) at h; read = ap or_missing q })
+    go None q = let b : IrqControl ≡ Budget = rw (q, kind_at) at h in absurd (kind_apart IrqControl refl b)
+    go (Some e) q = (e, record { here = q; kind = rw (q, kind_at) at h; read = ap or_missing q })
 
 -- ids of entries lie below the next id
-pub below_next : (r : Registry) → Sound r → (i : ℕ) (e : Entry) → at r.rows i ≡ some e → i < r.next
+pub below_next : (r : Registry) → Sound r → (i : ℕ) (e : Entry) → at r.rows i ≡ Some e → i < r.next
 below_next r s i e h = test (ltb i r.next) (λ a. ltb-true i r.next a)
     (λ a. let z = Table.at_above r.rows 1 r.next i s.rising (ltb-false i r.next a) in
     let b : ◌≡◌ {A = ℕ} 0 1 = cc in absurd (omega arith))
 
 -- no entry names p as its payer: p has nothing to pay for and nothing reserved
 abbrev pub Unpaid : Registry → ℕ → Type 0
-Unpaid r p = (j : ℕ) (d : Entry) → at r.rows j ≡ some d → p ≡ d.payer → ⊥
+Unpaid r p = (j : ℕ) (d : Entry) → at r.rows j ≡ Some d → p ≡ d.payer → ⊥
 
 pub record NoWeight (m : List (Row Entry)) (p : ℕ) : Type 0 where
   pub charge : total (charge_by p) m ≡ 0
@@ -91,16 +93,15 @@ record TotalsMove (m n : List (Row Entry)) (p : ℕ) (down up : Sums) : Type 0 w
 
 -- then the entries of m, budget p's account moved, are sound among n
 module _ (m n : List (Row Entry)) (p : ℕ) (y : Entry) (f : Account → Account) (down up : Sums)
-    (there : at m p ≡ some y) (is_budget : y.kind ≡ 6) (moves : AccountMoves f y.account down up) (totals : TotalsMove m n p down up)
-    (each : (j : ℕ) (d : Entry) → at m j ≡ some d → SoundEntry m j d) where
-  payer_entry : kind_at n y.payer ≡ 6 → SoundEntry n p (on_account f y)
+    (there : at m p ≡ Some y) (is_budget : y.kind ≡ Budget) (moves : AccountMoves f y.account down up) (totals : TotalsMove m n p down up)
+    (each : (j : ℕ) (d : Entry) → at m j ≡ Some d → SoundEntry m j d) where
+  payer_entry : kind_at n y.payer ≡ Budget → SoundEntry n p (on_account f y)
   payer_entry paid =
       let F = each p y there in
       let a = account_laws.sound_told moves.sound in
       let on = eq-eqb p p refl in
       record {
-        code = F.code;
-        plain = λ h. absurd (eqb-false y.kind 6 h is_budget);
+        plain = λ h. absurd (kind_apart y.kind h is_budget);
         root = F.root;
         lower = F.lower;
         paid = paid;
@@ -112,11 +113,10 @@ module _ (m n : List (Row Entry)) (p : ℕ) (y : Entry) (f : Account → Account
         share = a.share;
       }
 
-  other_entry : (j : ℕ) (d : Entry) → at m j ≡ some d → eqb p j ≡ false → kind_at n d.payer ≡ 6 → SoundEntry n j d
+  other_entry : (j : ℕ) (d : Entry) → at m j ≡ Some d → eqb p j ≡ false → kind_at n d.payer ≡ Budget → SoundEntry n j d
   other_entry j d h off paid =
       let F = each j d h in
       record {
-        code = F.code;
         plain = F.plain;
         root = F.root;
         lower = F.lower;
@@ -129,8 +129,8 @@ module _ (m n : List (Row Entry)) (p : ℕ) (y : Entry) (f : Account → Account
         share = F.share;
       }
 
-  each_entry : (j : ℕ) → ((d : Entry) → at m j ≡ some d → kind_at n d.payer ≡ 6)
-      → (d : Entry) → at (alter p (on_account f) m) j ≡ some d → SoundEntry n j d
+  each_entry : (j : ℕ) → ((d : Entry) → at m j ≡ Some d → kind_at n d.payer ≡ Budget)
+      → (d : Entry) → at (alter p (on_account f) m) j ≡ Some d → SoundEntry n j d
   each_entry j paid d h = test (eqb p j)
       (λ a. let q = eqb-true p j a in
       let z : on_account f y ≡ d = cc (Table.at_alter m p (on_account f) y there) in
@@ -189,8 +189,7 @@ account_step r i e f s B c =
 
 pub record EntryAdded (r : Registry) (x : Entry) : Type 0 where
   pub few : length r.rows < 512
-  pub code : listed x.kind ≡ true
-  pub plain : eqb x.kind 6 ≡ false → x.account ≡ account.blank
+  pub plain : is_budget_kind x.kind ≡ false → x.account ≡ account.blank
   pub used : x.account.memory_used ≡ 0
   pub memory_reserved : x.account.memory_reserved ≡ 0
   pub cpu_reserved : x.account.cpu_reserved ≡ 0
@@ -201,7 +200,7 @@ added r f x = add x (budget x.payer f r)
 
 module _ (r : Registry) (e : Entry) (f : Account → Account) (x : Entry)
     (s : Sound r) (B : BudgetEntry r x.payer e) (c : AccountMoves f e.account zeros (weight x)) (g : EntryAdded r x) where
-  add_no_entry : at (budget x.payer f r).rows r.next ≡ none
+  add_no_entry : at (budget x.payer f r).rows r.next ≡ None
   add_no_entry = Table.at_above (budget x.payer f r).rows 1 r.next r.next
       (Table.rising_alter r.rows 1 r.next x.payer (on_account f) s.rising) (omega arith)
 
@@ -232,7 +231,7 @@ module _ (r : Registry) (e : Entry) (f : Account → Account) (x : Entry)
     );
   }
 
-  add_paid : (q : ℕ) → kind_at r.rows q ≡ 6 → kind_at (added r f x).rows q ≡ 6
+  add_paid : (q : ℕ) → kind_at r.rows q ≡ Budget → kind_at (added r f x).rows q ≡ Budget
   add_paid q k =
       let (d, D) = budget_entry r q k in
       ap (λ (o : Option Entry). (or_missing o).kind)
@@ -249,7 +248,6 @@ module _ (r : Registry) (e : Entry) (f : Account → Account) (x : Entry)
       let off = ne_eqb x.payer r.next (λ q. add_apart (sym q)) in
       let none_yet = unpaid_weight r r.next s add_unpaid in
       record {
-        code = g.code;
         plain = g.plain;
         root = λ q. let (d, D) = budget_entry r 1 s.root in absurd (omega (arith, below_next r s 1 d D.here));
         lower = λ q. below_next r s x.payer e B.here;
@@ -281,13 +279,13 @@ module _ (r : Registry) (e : Entry) (f : Account → Account) (x : Entry)
 
 -- i is there, its entry e, and its payer's entry y
 pub record ObjectEntry (r : Registry) (i : ℕ) (e y : Entry) : Type 0 where
-  pub here : at r.rows i ≡ some e
+  pub here : at r.rows i ≡ Some e
   pub read : entry r i ≡ e
   pub payer : BudgetEntry r e.payer y
 
 -- the entry where an account moves
-pub at_on_account : (m : List (Row Entry)) (p i : ℕ) (f : Account → Account) (e : Entry) → at m i ≡ some e
-    → (d : Entry) × (at (alter p (on_account f) m) i ≡ some d) × (d.payer ≡ e.payer) × (d.charge ≡ e.charge)
+pub at_on_account : (m : List (Row Entry)) (p i : ℕ) (f : Account → Account) (e : Entry) → at m i ≡ Some e
+    → (d : Entry) × (at (alter p (on_account f) m) i ≡ Some d) × (d.payer ≡ e.payer) × (d.charge ≡ e.charge)
 at_on_account m p i f e h = test (eqb p i)
     (λ a. (on_account f e, rw (← eqb-true p i a) (Table.at_alter m p (on_account f) e (rw (eqb-true p i a) h)), refl, refl))
     (λ a. (e, Table.at_alter_other m p i (on_account f) (eqb-false p i a) ∙ h, refl, refl))
@@ -295,7 +293,6 @@ at_on_account m p i f e h = test (eqb p i)
 -- soundness does not ask an entry's own charge
 entry_charge : (m : List (Row Entry)) (j : ℕ) (d : Entry) (g : ℕ → ℕ) → SoundEntry m j d → SoundEntry m j (on_charge g d)
 entry_charge m j d g F = record {
-  code = F.code;
   plain = F.plain;
   root = F.root;
   lower = F.lower;
@@ -327,7 +324,7 @@ module _ (r : Registry) (i : ℕ) (e y : Entry) (f : Account → Account) (g : �
   charge_kind q = kind_alter (budget e.payer f r).rows i q (on_charge g) (λ a. refl)
       ∙ kind_alter r.rows e.payer q (on_account f) (λ a. refl)
 
-  charge_each : (j : ℕ) (d : Entry) → at (budget e.payer f r).rows j ≡ some d → SoundEntry (charged r i e f g).rows j d
+  charge_each : (j : ℕ) (d : Entry) → at (budget e.payer f r).rows j ≡ Some d → SoundEntry (charged r i e f g).rows j d
   charge_each j d h = each_entry r.rows (charged r i e f g).rows e.payer y f (bytes e.charge) (bytes (g e.charge))
       O.payer.here O.payer.kind c charge_totals s.each j (λ b k. charge_kind b.payer ∙ (s.each j b k).paid) d h
 

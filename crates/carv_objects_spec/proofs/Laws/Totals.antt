@@ -1,8 +1,7 @@
 -- P1's promises on every sound registry: used plus free over a budget and all below it are its memory limit, CPU left over them is at most its allowance, and the
 -- root's totals are those over all live budgets. Assumes nothing.
-use Rattle.std.specs.Prelude.{◌≡◌, refl, Bool, true, false, cond, not, ◌&&◌, ℕ, ◌+◌, ◌≤◌, eqb}
+use Rattle.std.specs.Prelude.{◌≡◌, refl, Bool, true, false, cond, not, ◌&&◌, ℕ, ◌+◌, ◌≤◌, eqb, Some}
 use Rattle.std.proofs.Common.{sym, ◌∙◌, ap, arith, eqb-true, eq-eqb, ne_eqb}
-use Rattle.std.proofs.Math.Option.{some}
 use Rattle.std.proofs.lemmas.Bool.{eqb-false}
 use Rattle.carv_area.specs.Laws.Table
 use Rattle.carv_area.specs.Table.{at, total}
@@ -10,6 +9,7 @@ use Rattle.carv_area.specs.Laws.Table.{All, test}
 use Rattle.carv_area.specs.Laws.Sums.{total_eq, total_sum, total_le, total_one, total_swap}
 use Rattle.carv_budget.specs.declared.Account.{Account}
 use Rattle.carv_budget.specs.Account as account
+use Rattle.carv_objects_spec.specs.Kinds.{is_budget_kind}
 use Rattle.carv_objects_spec.specs.declared.Entry.{Entry}
 use Rattle.carv_objects_spec.specs.Registry.{Registry, is_budget, account_of}
 use Rattle.carv_objects_spec.specs.Sound.{is_child}
@@ -44,7 +44,7 @@ and_false false h = refl
 
 module _ (r : Registry) (s : Sound r) where
   -- a claim on each live entry
-  each_row : (P : ℕ → Entry → Type 0) → ((i : ℕ) (e : Entry) → at r.rows i ≡ some e → P i e) → All P r.rows
+  each_row : (P : ℕ → Entry → Type 0) → ((i : ℕ) (e : Entry) → at r.rows i ≡ Some e → P i e) → All P r.rows
   each_row P h = Table.all_at P r.rows 1 r.next s.rising h
 
   -- the sum of a figure over the entries within b
@@ -69,7 +69,7 @@ module _ (r : Registry) (s : Sound r) where
         ∙ total_one (λ j d. cond (within r b j && not (eqb c j)) (v e) 0) r.rows 1 r.next e.payer p s.rising P.here)
 
     -- of those within b all are children of such, but b itself
-    one_by_one : (c : ℕ) (e : Entry) → at r.rows c ≡ some e
+    one_by_one : (c : ℕ) (e : Entry) → at r.rows c ≡ Some e
         → cond (within r b e.payer && not (eqb c e.payer)) (v e) 0 + cond (eqb b c) (v e) 0 ≡ cond (within r b c) (v e) 0
     one_by_one c e h =
         let p = e.payer in
@@ -107,9 +107,9 @@ module _ (r : Registry) (s : Sound r) where
 
   -- an entry that is no budget has an account of zeros
   pub over_inside : (f : Account → ℕ) → f account.blank ≡ 0 → (b : ℕ) → over f r b ≡ inside b (λ e. f e.account)
-  over_inside f zero b = total_eq (λ i e. cond (eqb e.kind 6 && within r b i) (f e.account) 0) (λ i e. cond (within r b i) (f e.account) 0) r.rows
-      (each_row (λ i e. cond (eqb e.kind 6 && within r b i) (f e.account) 0 ≡ cond (within r b i) (f e.account) 0)
-      λ i e h. test (eqb e.kind 6)
+  over_inside f zero b = total_eq (λ i e. cond (is_budget_kind e.kind && within r b i) (f e.account) 0) (λ i e. cond (within r b i) (f e.account) 0) r.rows
+      (each_row (λ i e. cond (is_budget_kind e.kind && within r b i) (f e.account) 0 ≡ cond (within r b i) (f e.account) 0)
+      λ i e h. test (is_budget_kind e.kind)
       (λ a. rw a)
       (λ a. let z : f e.account ≡ 0 = ap f ((s.each i e h).plain a) ∙ zero in rw (a, z) (sym (none_of (within r b i)))))
     where
@@ -148,6 +148,6 @@ module _ (r : Registry) (s : Sound r) where
 
   -- P1: "Root totals are the totals over all live budgets"
   pub root_total : (f : Account → ℕ) → over f r 1 ≡ over_all f r
-  root_total f = total_eq (λ i e. cond (eqb e.kind 6 && within r 1 i) (f e.account) 0) (λ i e. cond (eqb e.kind 6) (f e.account) 0) r.rows
-      (each_row (λ i e. cond (eqb e.kind 6 && within r 1 i) (f e.account) 0 ≡ cond (eqb e.kind 6) (f e.account) 0)
-      λ i e h. ap (λ (c : Bool). cond c (f e.account) 0) (and_true (eqb e.kind 6) (within_the_root r s i i e (omega arith) h)))
+  root_total f = total_eq (λ i e. cond (is_budget_kind e.kind && within r 1 i) (f e.account) 0) (λ i e. cond (is_budget_kind e.kind) (f e.account) 0) r.rows
+      (each_row (λ i e. cond (is_budget_kind e.kind && within r 1 i) (f e.account) 0 ≡ cond (is_budget_kind e.kind) (f e.account) 0)
+      λ i e h. ap (λ (c : Bool). cond c (f e.account) 0) (and_true (is_budget_kind e.kind) (within_the_root r s i i e (omega arith) h)))

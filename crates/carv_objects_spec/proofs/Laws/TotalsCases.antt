@@ -1,8 +1,8 @@
 -- P1 on a tree of budgets four levels deep, written out: the definitions compute these figures. Assumes nothing.
-use Rattle.std.specs.Prelude.{◌≡◌, refl, Bool, true, false, not, ◌&&◌, List, [], ◌∷◌, ℕ, eqb}
-use Rattle.std.proofs.Math.Option.{Option, none, some}
+use Rattle.std.specs.Prelude.{◌≡◌, refl, Bool, true, false, not, ◌&&◌, List, [], ◌∷◌, ℕ, eqb, Option, Some, None}
 use Rattle.carv_area.specs.Table.{Row}
 use Rattle.carv_budget.specs.Account as account
+use Rattle.carv_objects_spec.specs.declared.kind.Kind.TheVariants.{Frame, Budget}
 use Rattle.carv_objects_spec.specs.declared.Entry.{Entry}
 use Rattle.carv_objects_spec.specs.declared.Totals.{Totals}
 use Rattle.carv_objects_spec.specs.Reply.{Value, id, renewed, pays, of_account, charge, of_totals}
@@ -20,7 +20,7 @@ abbrev budget : (i payer bytes allowance limit left cpu_reserved used memory_res
 budget i payer bytes allowance limit left cpu_reserved used memory_reserved = record {
   id = i;
   it = record {
-    kind = 6;
+    kind = Budget;
     payer = payer;
     charge = bytes;
     account = record {
@@ -36,7 +36,7 @@ budget i payer bytes allowance limit left cpu_reserved used memory_reserved = re
 }
 
 abbrev frame : (i payer : ℕ) → Row Entry
-frame i payer = record { id = i; it = record { kind = 3; payer = payer; charge = 4_096; account = account.blank } }
+frame i payer = record { id = i; it = record { kind = Frame; payer = payer; charge = 4_096; account = account.blank } }
 
 -- The root, 1, with 10 ms and 1,000,000 bytes; a Frame of it, 2; budget 3 carved from 1, with 4 ms and 20,000 bytes; budget 4 carved from 3, with 1 ms and 8,192 bytes; a Frame
 -- of 4, 5; budget 6 carved from 1, with 2 ms and 1,000 bytes; budget 7 carved from 4, with 0.5 ms and 2,000 bytes, of which 0.2 ms are charged.
@@ -86,13 +86,13 @@ abbrev figures_are : (used free left : ℕ) → Totals → Bool
 figures_are u f l t = eqb t.memory_used u && eqb t.memory_free f && eqb t.cpu_left l
 
 abbrev are : (used free left : ℕ) → Option Value → Bool
-are u f l none = false
-are u f l (some (id i)) = false
-are u f l (some (renewed b)) = false
-are u f l (some (pays b)) = false
-are u f l (some (of_account a)) = false
-are u f l (some (charge p n)) = false
-are u f l (some (of_totals t)) = figures_are u f l t
+are u f l None = false
+are u f l (Some (id i)) = false
+are u f l (Some (renewed b)) = false
+are u f l (Some (pays b)) = false
+are u f l (Some (of_account a)) = false
+are u f l (Some (charge p n)) = false
+are u f l (Some (of_totals t)) = figures_are u f l t
 
 abbrev Reads : RegistryReply → (used free left : ℕ) → Type 0
 Reads z u f l = (eqb z.number 0 && are u f l z.value) ≡ true

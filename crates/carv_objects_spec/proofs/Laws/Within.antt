@@ -1,9 +1,8 @@
 -- "Within" on a sound registry: an object is within b where it is b, or where its payer is (`within_step`), so that the test of Within.antt tells its sentence (`tells`).
 -- Assumes nothing.
-use Rattle.std.specs.Prelude.{◌≡◌, refl, Bool, true, false, ◌||◌, ℕ, zero, suc, ◌+◌, ◌-◌, ◌≤◌, eqb, ltb}
+use Rattle.std.specs.Prelude.{◌≡◌, refl, Bool, true, false, ◌||◌, ℕ, zero, suc, ◌+◌, ◌-◌, ◌≤◌, eqb, ltb, Some}
 use Rattle.std.proofs.Common.{sym, ◌∙◌, ap, arith, eqb-true, eq-eqb, ltb-true, ltb-false}
 use Rattle.std.proofs.lemmas.Bool.{false≢true, eqb-false}
-use Rattle.std.proofs.Math.Option.{some}
 use Rattle.std.proofs.Math.Numerals.{unary_clauses}
 use Rattle.carv_area.specs.Laws.Table
 use Rattle.carv_area.specs.Table.{at}
@@ -16,17 +15,17 @@ use Rattle.carv_objects_spec.proofs.Laws.Kept.{live_object}
 use Rattle.carv_objects_spec.specs.Within.{meets, within, Within, itself, by_payer}
 
 -- ids are 1 or more
-pub from_one : (r : Registry) → Sound r → (i : ℕ) (e : Entry) → at r.rows i ≡ some e → 1 ≤ i
+pub from_one : (r : Registry) → Sound r → (i : ℕ) (e : Entry) → at r.rows i ≡ Some e → 1 ≤ i
 from_one r s i e h = test (ltb i 1)
     (λ a. let z = Table.at_below r.rows 1 r.next i s.rising (ltb-true i 1 a) in
     let b : ◌≡◌ {A = ℕ} 0 1 = cc in absurd (omega arith))
     (λ a. ltb-false i 1 a)
 
-pub entry_at : (r : Registry) (i : ℕ) (e : Entry) → at r.rows i ≡ some e → entry r i ≡ e
+pub entry_at : (r : Registry) (i : ℕ) (e : Entry) → at r.rows i ≡ Some e → entry r i ≡ e
 entry_at r i e h = ap or_missing h
 
 -- the payer's entry
-pub payer_at : (r : Registry) → Sound r → (i : ℕ) (e : Entry) → at r.rows i ≡ some e → (y : Entry) × BudgetEntry r e.payer y
+pub payer_at : (r : Registry) → Sound r → (i : ℕ) (e : Entry) → at r.rows i ≡ Some e → (y : Entry) × BudgetEntry r e.payer y
 payer_at r s i e h = budget_entry r e.payer (s.each i e h).paid
 
 or_same : (b : Bool) → (b || b) ≡ b
@@ -41,14 +40,14 @@ pub or_left : {b : Bool} (c : Bool) → b ≡ true → (b || c) ≡ true
 or_left c h = rw h
 
 -- no payer has a higher id
-payer_low : (r : Registry) → Sound r → (i : ℕ) (e : Entry) → at r.rows i ≡ some e → e.payer ≤ i
+payer_low : (r : Registry) → Sound r → (i : ℕ) (e : Entry) → at r.rows i ≡ Some e → e.payer ≤ i
 payer_low r s i e h = test (eqb i 1)
     (λ a. omega (arith, ((s.each i e h).root (eqb-true i 1 a)).1, eqb-true i 1 a))
     (λ a. omega (arith, (s.each i e h).lower (eqb-false i 1 a)))
 
 module _ (r : Registry) (s : Sound r) (b : ℕ) where
   -- the way goes on at the entry's payer
-  go_on : (n i : ℕ) (e : Entry) → at r.rows i ≡ some e → meets (suc n) r b i ≡ (eqb i b || meets n r b e.payer)
+  go_on : (n i : ℕ) (e : Entry) → at r.rows i ≡ Some e → meets (suc n) r b i ≡ (eqb i b || meets n r b e.payer)
   go_on n i e h = ap (λ (x : Entry). eqb i b || meets n r b x.payer) (entry_at r i e h)
 
   -- from the root, the way leads nowhere else
@@ -59,7 +58,7 @@ module _ (r : Registry) (s : Sound r) (b : ℕ) where
       go_on n 1 e B.here ∙ ap (λ (p : ℕ). eqb 1 b || meets n r b p) ((s.each 1 e B.here).root refl).1 ∙ ap (λ (c : Bool). eqb 1 b || c) (at_root n) ∙ or_same (eqb 1 b)
 
   -- once it has led to the root, another step finds nothing new
-  once_more : (n i : ℕ) (e : Entry) → at r.rows i ≡ some e → i ≤ suc n → meets n r b i ≡ meets (suc n) r b i
+  once_more : (n i : ℕ) (e : Entry) → at r.rows i ≡ Some e → i ≤ suc n → meets n r b i ≡ meets (suc n) r b i
   once_more zero i e h k =
       let one : i ≡ 1 = omega (arith, from_one r s i e h) in
       rw one (at_root zero ∙ sym (at_root 1))
@@ -69,12 +68,12 @@ module _ (r : Registry) (s : Sound r) (b : ℕ) where
       let low = (s.each i e h).lower (eqb-false i 1 a) in
       go_on n i e h ∙ ap (λ (c : Bool). eqb i b || c) (once_more n e.payer y B.here (omega arith)) ∙ sym (go_on (suc n) i e h))
 
-  enough : (k n i : ℕ) (e : Entry) → at r.rows i ≡ some e → i ≤ suc n → meets n r b i ≡ meets (n + k) r b i
+  enough : (k n i : ℕ) (e : Entry) → at r.rows i ≡ Some e → i ≤ suc n → meets n r b i ≡ meets (n + k) r b i
   enough zero n i e h l = simp unary_clauses
   enough (suc k) n i e h l = simp unary_clauses (enough k n i e h l ∙ once_more (n + k) i e h (omega arith))
 
   -- an object is within b where it is b, or where its payer is
-  pub within_step : (i : ℕ) (e : Entry) → at r.rows i ≡ some e → within r b i ≡ (eqb i b || within r b e.payer)
+  pub within_step : (i : ℕ) (e : Entry) → at r.rows i ≡ Some e → within r b i ≡ (eqb i b || within r b e.payer)
   within_step i e h =
       let (y, B) = payer_at r s i e h in
       let low : e.payer ≤ i = payer_low r s i e h in
@@ -94,7 +93,7 @@ module _ (r : Registry) (s : Sound r) where
   within_self (suc i) = rw (eq-eqb (suc i) (suc i) refl)
 
   -- all are within the root
-  pub within_the_root : (n i : ℕ) (e : Entry) → i ≤ n → at r.rows i ≡ some e → within r 1 i ≡ true
+  pub within_the_root : (n i : ℕ) (e : Entry) → i ≤ n → at r.rows i ≡ Some e → within r 1 i ≡ true
   within_the_root zero i e l h = absurd (omega (arith, from_one r s i e h))
   within_the_root (suc n) i e l h = test (eqb i 1)
       (λ a. rw (eqb-true i 1 a) (within_self 1))
@@ -103,7 +102,7 @@ module _ (r : Registry) (s : Sound r) where
       within_step r s 1 i e h ∙ or_true (eqb i 1) (within_the_root n e.payer y (omega arith) B.here))
 
   -- what is within b has no lower id
-  pub within_le : (n b i : ℕ) (e : Entry) → i ≤ n → at r.rows i ≡ some e → within r b i ≡ true → b ≤ i
+  pub within_le : (n b i : ℕ) (e : Entry) → i ≤ n → at r.rows i ≡ Some e → within r b i ≡ true → b ≤ i
   within_le zero b i e l h k = absurd (omega (arith, from_one r s i e h))
   within_le (suc n) b i e l h k = test (eqb i b)
       (λ a. omega (arith, eqb-true i b a))

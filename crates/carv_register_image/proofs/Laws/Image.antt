@@ -1,15 +1,15 @@
 -- The register image and the steps that write it: its words, what is after each step, what one step writes, and that the last leaves the image. Assumes nothing.
 use Rattle.std.specs.Prelude.{◌≡◌, refl, Bool, true, false, ◌&&◌, ◌≢◌, ℕ, zero, suc, ◌+◌, ◌*◌, ◌-◌, ◌≤◌, ◌<◌, ltb, length, get_or, set, replicate}
 use Rattle.std.proofs.Math.Path.{sym, ap}
-use Rattle.std.proofs.Common.{◌∙◌, ⊎_elim, length-drop, length-take-le, take_all, drop-cons, get_or-set_other, ltb-true}
+use Rattle.std.proofs.Common.{◌∙◌, length-drop, length-take-le, take_all, drop-cons, get_or-set_other, ltb-true}
 use Rattle.std.proofs.lemmas.Bool.{false≢true}
 use mathlib.Core.List.{List, [], ◌∷◌, ◌++◌, append_assoc, append-nil}
 use native.Mathlib.Omega.{arith}
-use Rattle.std.proofs.Math.ListN.{take, drop, get_or-eq_default}
-use Rattle.std.proofs.lemmas.List.{length-replicate, get_or-replicate, set_split}
+use Rattle.std.proofs.Math.ListN.{take, drop}
+use Rattle.std.proofs.lemmas.List.{set_split}
 use Rattle.std.proofs.Math.Seq.{take_at, drop_at, take-add, drop-drop}
 use Rattle.carv_area.specs.Lists.{tab}
-use Rattle.carv_area.specs.Laws.Lists.{lt_or_ge}
+use Rattle.carv_area.specs.Laws.Lists.{zero_at}
 use Rattle.carv_area.specs.Words.{value, word, words, Writes}
 use Rattle.carv_area.specs.Laws.Words.{length_words, words_inj, words_part, words_put}
 use Rattle.carv_area.specs.Parts.{part, put_part}
@@ -22,13 +22,6 @@ use Rattle.carv_register_image.specs.Image.{register_image, eight_written, after
 pub length_image : length register_image ≡ 512
 unfolding register_image
 length_image = refl
-
--- in a list of zeros, 0 is read at every place
-zero_at : (n i : ℕ) → ◌≡◌ {A = ℕ} (get_or (replicate n 0) i 0) 0
-zero_at n i = ⊎_elim
-    (λ (h : i < n). get_or-replicate {A = ℕ} n i 0 0 h)
-    (λ (h : n ≤ i). get_or-eq_default {A = ℕ} (replicate n 0) 0 {n = i} (rw length-replicate h))
-    (lt_or_ge i n)
 
 -- its words: all 0 but two
 pub image_words : words register_image ≡ set (set (replicate 64 0) 0 0x037f) 3 0x0000_ffbf_0000_1f80
@@ -80,18 +73,18 @@ module _ (k : ℕ) (h : k ≤ 64) (lent : List ℕ) where
   unfolding after_step
   as_lent = drop_at (take (k * 8) register_image) (drop (k * 8) lent) (k * 8) front
 
--- what the steps so far left: their bytes are final, and one step more leaves what it is to leave of the lent bytes
-module _ (k : ℕ) (h : k < 64) (lent m : List ℕ) (e : m ≡ after_step k lent) where
-  pub so_far : Final k m
+-- what the steps before step k left: their bytes are final, and one step more leaves what it is to leave of the lent bytes
+module _ (k : ℕ) (a : 1 ≤ k) (b : k ≤ 64) (lent m : List ℕ) (e : m ≡ after_step (k - 1) lent) where
+  pub so_far : Final (k - 1) m
   unfolding Final
-  so_far = rw e (are_final k (omega arith) lent)
+  so_far = rw e (are_final (k - 1) (omega arith) lent)
 
-  pub one_more : after_step (k + 1) m ≡ after_step (k + 1) lent
+  pub one_more : after_step k m ≡ after_step k lent
   unfolding after_step
   one_more =
-      let n : (k + 1) * 8 ≡ k * 8 + 8 = omega arith in
-      let d : drop (k * 8) m ≡ drop (k * 8) lent = ap (drop (k * 8)) e ∙ as_lent k (omega arith) lent in
-      ap (λ (l : List ℕ). take ((k + 1) * 8) register_image ++ l) (rw (n, ← (drop-drop 8 (k * 8) m), ← (drop-drop 8 (k * 8) lent)) (ap (drop 8) d))
+      let n : k * 8 ≡ (k - 1) * 8 + 8 = omega arith in
+      let d : drop ((k - 1) * 8) m ≡ drop ((k - 1) * 8) lent = ap (drop ((k - 1) * 8)) e ∙ as_lent (k - 1) (omega arith) lent in
+      ap (λ (l : List ℕ). take (k * 8) register_image ++ l) (rw (n, ← (drop-drop 8 ((k - 1) * 8) m), ← (drop-drop 8 ((k - 1) * 8) lent)) (ap (drop 8) d))
 
 -- after the last, the image
 pub after_all : (lent : List ℕ) → length lent ≡ 512 → after_step 64 lent ≡ register_image

@@ -5,4 +5,4 @@ use Rattle.carv_register_image.proofs.step.Goals as goal
 
 pub returns : goal.returns
 returns c =
-    c.write_eight.ensures ∙ step_is c.args.k c.requires.le_k.0 c.requires.le_k.1 c.args.image.now c.requires.fact
+    c.write_eight.ensures ∙ step_is c.args.k c.requires.is_step.0 c.requires.is_step.1 c.args.image.now c.requires.final_before

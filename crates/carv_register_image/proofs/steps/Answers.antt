@@ -1,36 +1,31 @@
--- `carv_register_image::steps` meets its contract. The loop's invariant is document 02's sentence: after step k the first 8k bytes are final and the others as lent. The
--- measure is the number of steps left. Assumes nothing.
-use Prim.Native.Nat.{◌+◌, ◌-◌}
-use native.Mathlib.Omega.{arith}
-use mathlib.Core.Path.{◌≡◌, sym, ◌∙◌}
-use borrow.Author.Rules.{rules}
+-- `carv_register_image::steps` meets its contract. Assumes nothing.
+use Rattle.std.proofs.Common.{arith, rules, sym, ◌∙◌}
+use Rattle.std.specs.Prelude.{◌≡◌, ◌+◌, ◌-◌}
 use Rattle.carv_register_image.proofs.Laws.Image.{after_none, so_far, one_more}
 use Rattle.carv_register_image.proofs.steps.Goals as goal
 
 pub loop-k-init : goal.loop-k-init
 loop-k-init c =
-    (omega arith, c.requires.image_len, sym (after_none c.args.image.now))
+    (omega arith, omega arith, c.requires.image_bytes, sym (after_none c.args.image.now))
 
-pub overflow_add-k : goal.overflow_add-k
-overflow_add-k c =
-    omega arith
-
-pub step-requires : goal.step-requires
-step-requires c =
+pub step-requires-clause-final_before : goal.step-requires-clause-final_before
+step-requires-clause-final_before c =
     let at = c.loop-k in
-    let e : (at.k + 1) - 1 ≡ at.k = omega arith in
-    record { image_len = at.invariant.1; le_k = (omega arith, omega arith); fact = rw e (so_far at.k (omega arith) c.args.image.now at.image at.invariant.2) }
-
-pub loop-k-smaller : goal.loop-k-smaller
-loop-k-smaller c =
-    omega arith
+    so_far at.k (omega arith) (omega arith) c.args.image.now at.image at.invariant.3
 
 pub loop-k-preserved : goal.loop-k-preserved
 loop-k-preserved c =
     let at = c.loop-k in
-    (omega arith, search rules, c.step.ensures ∙ one_more at.k (omega arith) c.args.image.now at.image at.invariant.2)
+    let e : (at.k + 1) - 1 ≡ at.k = omega arith in
+    (omega arith, omega arith, search rules, rw e (c.step.ensures ∙ one_more at.k (omega arith) (omega arith) c.args.image.now at.image at.invariant.3))
 
 pub returns : goal.returns
 returns c =
-    let e : c.loop-k.k ≡ c.args.n = omega arith in
-    rw e at c.loop-k.invariant.2
+    let e : c.loop-k.k - 1 ≡ c.args.n = omega arith in
+    rw e at c.loop-k.invariant.3
+
+pub returns-2 : goal.returns-2
+returns-2 c =
+    let at = c.loop-k in
+    let e : at.k ≡ c.args.n = omega arith in
+    rw e at (c.step.ensures ∙ one_more at.k (omega arith) (omega arith) c.args.image.now at.image at.invariant.3)

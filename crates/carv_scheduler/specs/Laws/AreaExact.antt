@@ -1,5 +1,5 @@
 -- A sound area is determined by its board: two with the same board have the same bytes. Assumes nothing.
-use Rattle.std.specs.Prelude.{◌≡◌, ℕ, zero, suc, ◌+◌, ◌%◌, ◌<◌, ◌≤◌, true, List, ◌++◌, length, slice_index}
+use Rattle.std.specs.Prelude.{◌≡◌, ℕ, zero, suc, ◌+◌, ◌%◌, ◌<◌, ◌≤◌, true, List, ◌++◌, length, slice_index, Option, Result}
 use Rattle.std.proofs.Math.Path.{refl, sym}
 use Rattle.std.proofs.Common.{ap, ◌∙◌, subst, arith, ext_get_or}
 use Rattle.carv_area.specs.Words.{words}
@@ -10,8 +10,8 @@ use Rattle.carv_area.specs.Laws.Rows.{holds_inj}
 use Rattle.carv_area.specs.Stored.{Stored, one}
 use Rattle.carv_area.specs.Laws.Stored.{wide_one}
 use Rattle.carv_objects.specs.Laws.AreaExact as objects
-use Rattle.carv_scheduler.specs.declared.Answer.{Answer}
-use Rattle.carv_scheduler_spec.specs.Scheduler.{Board, BoardReply}
+use Rattle.carv_objects.specs.declared.refusal.Refusal.{Refusal}
+use Rattle.carv_scheduler_spec.specs.Scheduler.{Board, BoardReply, Value}
 use Rattle.carv_scheduler.specs.Area.{registry_part, head, threads_part, queue_part, exits_part, thread_fields, exit_fields, decode, sound_area, Serves}
 use Rattle.carv_scheduler.specs.Laws.Rows.{wide, wide_exit}
 use Rattle.carv_scheduler.specs.Laws.Formed.{Formed}
@@ -81,6 +81,7 @@ pub exact : (a b : List ℕ) → sound_area a ≡ true → sound_area b ≡ true
 exact a b s t e x y = formed_exact a b x y (decode b) (subst (Formed a) e (area_formed a s)) (area_formed b t)
 
 -- the contract fixes every byte that a call leaves
-pub serves_exact : (call : Board → BoardReply) (a : List ℕ) (r r' : Answer) (a' a'' : List ℕ) → Serves call a r a' → Serves call a r' a''
+pub serves_exact : {T : Type 0} {tells : T → Option Value} (call : Board → BoardReply) (a : List ℕ) (r r' : Result T Refusal) (a' a'' : List ℕ)
+    → Serves call tells a r a' → Serves call tells a r' a''
     → ((i : ℕ) → slice_index a' i < 256) → ((i : ℕ) → slice_index a'' i < 256) → a' ≡ a''
 serves_exact call a r r' a' a'' s t x y = exact a' a'' s.area.sound t.area.sound (s.area.same ∙ sym t.area.same) x y

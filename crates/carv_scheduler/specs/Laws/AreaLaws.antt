@@ -20,51 +20,54 @@ use Rattle.carv_budget.proofs.Laws.Account.{first, second}
 use Rattle.carv_objects.specs.Area as objects
 use Rattle.carv_scheduler_spec.specs.Scheduler.{Board}
 use Rattle.carv_scheduler_spec.specs.Sound.{sound}
+use Rattle.carv_scheduler_spec.proofs.Laws.Codes.{cause_same}
 use Rattle.carv_scheduler_spec.proofs.Laws.SoundFacts.{Sound}
 use Rattle.carv_scheduler_spec.proofs.Laws.SoundLaws.{sound_told, sound_shown}
-use Rattle.carv_scheduler.specs.Area.{registry_part, threads_part, queue_part, exits_part, thread_fields, thread_at, exit_fields, exit_at, threads_in, exits_in, decode, behind, sound_area, Is}
+use Rattle.carv_scheduler.specs.Area.{registry_part, threads_part, queue_part, exits_part, thread_fields, thread_at, exit_fields, exit_at, threads_in, exits_in, threads_listed, exits_listed, decode, behind, sound_area, Is}
 use Rattle.carv_scheduler.specs.Laws.Rows.{no_row, wide, no_exit, wide_exit}
+use Rattle.carv_scheduler.specs.Laws.Listed.{state_words, budget_words, spaces_words, cause_words, threads_are_listed, exits_are_listed}
 use Rattle.carv_scheduler.specs.Laws.Formed.{WellFormed, Leaves}
 
--- word c of the thread at place i, and of the exit at place i
-thread_field : (l : List ℕ) (i c : ℕ) → c < 21 → slice_index (thread_fields (thread_at l i)) c ≡ slice_index l (i * 21 + suc c)
-thread_field l i zero h = refl
-thread_field l i (suc zero) h = refl
-thread_field l i (suc (suc zero)) h = refl
-thread_field l i (suc (suc (suc zero))) h = ap (λ (o : ℕ). slice_index l o) (add_assoc (i * 21) 3 1)
-thread_field l i (suc (suc (suc (suc zero)))) h = refl
-thread_field l i (suc (suc (suc (suc (suc zero))))) h = ap (λ (o : ℕ). slice_index l o) (add_assoc (i * 21) 5 1)
-thread_field l i (suc (suc (suc (suc (suc (suc zero)))))) h = refl
-thread_field l i (suc (suc (suc (suc (suc (suc (suc zero))))))) h = ap (λ (o : ℕ). slice_index l o) (add_assoc (i * 21) 7 1)
-thread_field l i (suc (suc (suc (suc (suc (suc (suc (suc zero)))))))) h = ap (λ (o : ℕ). slice_index l o) (add_assoc (i * 21) 7 2)
-thread_field l i (suc (suc (suc (suc (suc (suc (suc (suc (suc zero))))))))) h = ap (λ (o : ℕ). slice_index l o) (add_assoc (i * 21) 7 3)
-thread_field l i (suc (suc (suc (suc (suc (suc (suc (suc (suc (suc zero)))))))))) h = refl
-thread_field l i (suc (suc (suc (suc (suc (suc (suc (suc (suc (suc (suc zero))))))))))) h = ap (λ (o : ℕ). slice_index l o) (add_assoc (i * 21) 11 1)
-thread_field l i (suc (suc (suc (suc (suc (suc (suc (suc (suc (suc (suc (suc zero)))))))))))) h = ap (λ (o : ℕ). slice_index l o) (add_assoc (i * 21) 11 2)
-thread_field l i (suc (suc (suc (suc (suc (suc (suc (suc (suc (suc (suc (suc (suc zero))))))))))))) h = ap (λ (o : ℕ). slice_index l o) (add_assoc (i * 21) 11 3)
-thread_field l i (suc (suc (suc (suc (suc (suc (suc (suc (suc (suc (suc (suc (suc (suc zero)))))))))))))) h = ap (λ (o : ℕ). slice_index l o) (add_assoc (i * 21) 11 4)
-thread_field l i (suc (suc (suc (suc (suc (suc (suc (suc (suc (suc (suc (suc (suc (suc (suc zero))))))))))))))) h = ap (λ (o : ℕ). slice_index l o) (add_assoc (i * 21) 11 5)
-thread_field l i (suc (suc (suc (suc (suc (suc (suc (suc (suc (suc (suc (suc (suc (suc (suc (suc zero)))))))))))))))) h = ap (λ (o : ℕ). slice_index l o) (add_assoc (i * 21) 11 6)
-thread_field l i (suc (suc (suc (suc (suc (suc (suc (suc (suc (suc (suc (suc (suc (suc (suc (suc (suc zero))))))))))))))))) h = refl
-thread_field l i (suc (suc (suc (suc (suc (suc (suc (suc (suc (suc (suc (suc (suc (suc (suc (suc (suc (suc zero)))))))))))))))))) h = ap (λ (o : ℕ). slice_index l o) (add_assoc (i * 21) 18 1)
-thread_field l i (suc (suc (suc (suc (suc (suc (suc (suc (suc (suc (suc (suc (suc (suc (suc (suc (suc (suc (suc zero))))))))))))))))))) h = ap (λ (o : ℕ). slice_index l o) (add_assoc (i * 21) 18 2)
-thread_field l i (suc (suc (suc (suc (suc (suc (suc (suc (suc (suc (suc (suc (suc (suc (suc (suc (suc (suc (suc (suc zero)))))))))))))))))))) h = refl
-thread_field l i (suc (suc (suc (suc (suc (suc (suc (suc (suc (suc (suc (suc (suc (suc (suc (suc (suc (suc (suc (suc (suc c))))))))))))))))))))) h = absurd (omega arith)
+-- word c of the thread at place i, and of the exit at place i, where their codes are listed
+module _ (l : List ℕ) (z : threads_listed l ≡ true) (i : ℕ) (a : i < slice_index l 0) where
+  thread_field : (c : ℕ) → c < 21 → slice_index (thread_fields (thread_at l i)) c ≡ slice_index l (i * 21 + suc c)
+  thread_field zero h = refl
+  thread_field (suc zero) h = (state_words l z i a).state
+  thread_field (suc (suc zero)) h = (state_words l z i a).kind ∙ ap (λ (o : ℕ). slice_index l o) (add_assoc (i * 21) 2 1)
+  thread_field (suc (suc (suc zero))) h = (state_words l z i a).number ∙ ap (λ (o : ℕ). slice_index l o) (add_assoc (i * 21) 2 2)
+  thread_field (suc (suc (suc (suc zero)))) h = (budget_words l z i a).is
+  thread_field (suc (suc (suc (suc (suc zero))))) h = (budget_words l z i a).id ∙ ap (λ (o : ℕ). slice_index l o) (add_assoc (i * 21) 5 1)
+  thread_field (suc (suc (suc (suc (suc (suc zero)))))) h = (spaces_words l z i a).is
+  thread_field (suc (suc (suc (suc (suc (suc (suc zero))))))) h = (spaces_words l z i a).space ∙ ap (λ (o : ℕ). slice_index l o) (add_assoc (i * 21) 7 1)
+  thread_field (suc (suc (suc (suc (suc (suc (suc (suc zero)))))))) h = (spaces_words l z i a).cspace ∙ ap (λ (o : ℕ). slice_index l o) (add_assoc (i * 21) 7 2)
+  thread_field (suc (suc (suc (suc (suc (suc (suc (suc (suc zero))))))))) h = (spaces_words l z i a).root ∙ ap (λ (o : ℕ). slice_index l o) (add_assoc (i * 21) 7 3)
+  thread_field (suc (suc (suc (suc (suc (suc (suc (suc (suc (suc zero)))))))))) h = refl
+  thread_field (suc (suc (suc (suc (suc (suc (suc (suc (suc (suc (suc zero))))))))))) h = ap (λ (o : ℕ). slice_index l o) (add_assoc (i * 21) 11 1)
+  thread_field (suc (suc (suc (suc (suc (suc (suc (suc (suc (suc (suc (suc zero)))))))))))) h = ap (λ (o : ℕ). slice_index l o) (add_assoc (i * 21) 11 2)
+  thread_field (suc (suc (suc (suc (suc (suc (suc (suc (suc (suc (suc (suc (suc zero))))))))))))) h = ap (λ (o : ℕ). slice_index l o) (add_assoc (i * 21) 11 3)
+  thread_field (suc (suc (suc (suc (suc (suc (suc (suc (suc (suc (suc (suc (suc (suc zero)))))))))))))) h = ap (λ (o : ℕ). slice_index l o) (add_assoc (i * 21) 11 4)
+  thread_field (suc (suc (suc (suc (suc (suc (suc (suc (suc (suc (suc (suc (suc (suc (suc zero))))))))))))))) h = ap (λ (o : ℕ). slice_index l o) (add_assoc (i * 21) 11 5)
+  thread_field (suc (suc (suc (suc (suc (suc (suc (suc (suc (suc (suc (suc (suc (suc (suc (suc zero)))))))))))))))) h = ap (λ (o : ℕ). slice_index l o) (add_assoc (i * 21) 11 6)
+  thread_field (suc (suc (suc (suc (suc (suc (suc (suc (suc (suc (suc (suc (suc (suc (suc (suc (suc zero))))))))))))))))) h = refl
+  thread_field (suc (suc (suc (suc (suc (suc (suc (suc (suc (suc (suc (suc (suc (suc (suc (suc (suc (suc zero)))))))))))))))))) h = ap (λ (o : ℕ). slice_index l o) (add_assoc (i * 21) 18 1)
+  thread_field (suc (suc (suc (suc (suc (suc (suc (suc (suc (suc (suc (suc (suc (suc (suc (suc (suc (suc (suc zero))))))))))))))))))) h = ap (λ (o : ℕ). slice_index l o) (add_assoc (i * 21) 18 2)
+  thread_field (suc (suc (suc (suc (suc (suc (suc (suc (suc (suc (suc (suc (suc (suc (suc (suc (suc (suc (suc (suc zero)))))))))))))))))))) h = refl
+  thread_field (suc (suc (suc (suc (suc (suc (suc (suc (suc (suc (suc (suc (suc (suc (suc (suc (suc (suc (suc (suc (suc c))))))))))))))))))))) h = absurd (omega arith)
 
-exit_field : (l : List ℕ) (i c : ℕ) → c < 2 → slice_index (exit_fields (exit_at l i)) c ≡ slice_index l (i * 2 + suc c)
-exit_field l i zero h = refl
-exit_field l i (suc zero) h = refl
-exit_field l i (suc (suc c)) h = absurd (omega arith)
+exit_field : (l : List ℕ) → exits_listed l ≡ true → (i c : ℕ) → i < slice_index l 0 → c < 2 → slice_index (exit_fields (exit_at l i)) c ≡ slice_index l (i * 2 + suc c)
+exit_field l z i zero a h = refl
+exit_field l z i (suc zero) a h = cause_same _ (cause_words l z i a)
+exit_field l z i (suc (suc c)) a h = absurd (omega arith)
 
 -- tables of rows of any kind
 module _ {A : Type 0} (fields : A → List ℕ) (w : ℕ) (wide : (a : A) → length (fields a) ≡ w) (some : 1 ≤ w) where
   -- words whose rows are followed by zeros are a table
-  rows_hold : (row : List ℕ → ℕ → A) (d : A) → ((l : List ℕ) (i c : ℕ) → c < w → slice_index (fields (row l i)) c ≡ slice_index l (i * w + suc c))
-      → (l : List ℕ) → slice_index l 0 * w + 1 ≤ length l → all_zero (behind w l) ≡ true → Holds fields w l (tab (slice_index l 0) (row l))
-  rows_hold row d field l h z =
+  rows_hold : (row : List ℕ → ℕ → A) (d : A) (l : List ℕ) → ((i c : ℕ) → i < slice_index l 0 → c < w → slice_index (fields (row l i)) c ≡ slice_index l (i * w + suc c))
+      → slice_index l 0 * w + 1 ≤ length l → all_zero (behind w l) ≡ true → Holds fields w l (tab (slice_index l 0) (row l))
+  rows_hold row d l field h z =
       let n : length (tab (slice_index l 0) (row l)) ≡ slice_index_or l 0 0 = length_tab (slice_index l 0) (row l) in
       holds_of fields w wide d l (tab (slice_index l 0) (row l)) some (sym n) (rw n h) (rw n z)
-      (λ i j a b. sym (ap (λ (r : A). slice_index (fields r) j) (get_or_tab (slice_index l 0) (row l) i d (rw n at a)) ∙ field l i j b))
+      (λ i j a b. sym (ap (λ (r : A). slice_index (fields r) j) (get_or_tab (slice_index l 0) (row l) i d (rw n at a)) ∙ field i j (rw n at a) b))
 
   -- a table's rows are followed by zeros
   pub hold_zeros : (l : List ℕ) (xs : List A) → Holds fields w l xs → all_zero (behind w l) ≡ true
@@ -75,12 +78,11 @@ module _ {A : Type 0} (fields : A → List ℕ) (w : ℕ) (wide : (a : A) → le
 -- the numbers of a queue
 queue_hold : (l : List ℕ) → slice_index l 0 * 1 + 1 ≤ length l → all_zero (behind 1 l) ≡ true → Holds one 1 l (keys 1 l)
 unfolding keys
-queue_hold l h z = rows_hold one 1 wide_one (omega arith) (λ m i. slice_index m (i * 1 + 1)) 0
-    field l h z
+queue_hold l h z = rows_hold one 1 wide_one (omega arith) (λ m i. slice_index m (i * 1 + 1)) 0 l field h z
   where
-    field : (m : List ℕ) (i c : ℕ) → c < 1 → slice_index (one (slice_index m (i * 1 + 1))) c ≡ slice_index m (i * 1 + suc c)
-    field m i zero b = refl
-    field m i (suc c) b = absurd (omega arith)
+    field : (i c : ℕ) → i < slice_index l 0 → c < 1 → slice_index (one (slice_index l (i * 1 + 1))) c ≡ slice_index l (i * 1 + suc c)
+    field i zero a b = refl
+    field i (suc c) a b = absurd (omega arith)
 
 -- the words of the parts
 module _ (a : List ℕ) (z : length a ≡ 68_144) where
@@ -100,6 +102,8 @@ module _ (a : List ℕ) (z : length a ≡ 68_144) where
 pub record Asked (a : List ℕ) : Type 0 where
   pub size : length a ≡ 68_144
   pub registry : objects.sound_area (registry_part a) ≡ true
+  pub threads_listed : threads_listed (words (threads_part a)) ≡ true
+  pub exits_listed : exits_listed (words (exits_part a)) ≡ true
   pub sound : sound (decode a) ≡ true
   pub threads : all_zero (behind 21 (words (threads_part a))) ≡ true
   pub count : slice_index_or (words (queue_part a)) 0 0 ≤ 127
@@ -111,13 +115,17 @@ unfolding sound_area
 asked_told a h =
     let h₁ = second (length a == 68_144) _ h in
     let h₂ = second (objects.sound_area (registry_part a)) _ h₁ in
-    let h₃ = second (sound (decode a)) _ h₂ in
+    let c₁ = second (threads_listed (words (threads_part a))) _ h₂ in
+    let c₂ = second (exits_listed (words (exits_part a))) _ c₁ in
+    let h₃ = second (sound (decode a)) _ c₂ in
     let h₄ = second (all_zero (behind 21 (words (threads_part a)))) _ h₃ in
     let h₅ = second (nat_le (slice_index (words (queue_part a)) 0) 127) _ h₄ in
     record {
       size = eqb-true (length a) 68_144 (first (length a == 68_144) _ h);
       registry = first (objects.sound_area (registry_part a)) _ h₁;
-      sound = first (sound (decode a)) _ h₂;
+      threads_listed = first (threads_listed (words (threads_part a))) _ h₂;
+      exits_listed = first (exits_listed (words (exits_part a))) _ c₁;
+      sound = first (sound (decode a)) _ c₂;
       threads = first (all_zero (behind 21 (words (threads_part a)))) _ h₃;
       count = leb-true (slice_index (words (queue_part a)) 0) 127 (first (nat_le (slice_index (words (queue_part a)) 0) 127) _ h₄);
       queue = first (all_zero (behind 1 (words (queue_part a)))) _ h₅;
@@ -127,7 +135,7 @@ asked_told a h =
 pub asked_shown : (a : List ℕ) → Asked a → sound_area a ≡ true
 unfolding sound_area
 asked_shown a k =
-    rw (eq-eqb (length a) 68_144 k.size, k.registry, k.sound, k.threads, le-leb (slice_index (words (queue_part a)) 0) 127 k.count, k.queue, k.exits)
+    rw (eq-eqb (length a) 68_144 k.size, k.registry, k.threads_listed, k.exits_listed, k.sound, k.threads, le-leb (slice_index (words (queue_part a)) 0) 127 k.count, k.queue, k.exits)
 
 -- a sound area says a sound board, and is well formed
 module _ (a : List ℕ) (s : sound_area a ≡ true) where
@@ -148,11 +156,11 @@ module _ (a : List ℕ) (s : sound_area a ≡ true) where
         current = refl;
         switches = refl;
         threads = stored thread_fields 21 (threads_part a) (decode a).threads
-            (rows_hold thread_fields 21 wide (omega arith) thread_at no_row thread_field (words (threads_part a)) (omega (arith, threads_size a k.size)) k.threads);
+            (rows_hold thread_fields 21 wide (omega arith) thread_at no_row (words (threads_part a)) (λ i c b h. thread_field (words (threads_part a)) k.threads_listed i b c h) (omega (arith, threads_size a k.size)) k.threads);
         rising = o.rising;
         queue = stored one 1 (queue_part a) (decode a).queue (queue_hold (words (queue_part a)) (omega (arith, queue_size a k.size)) k.queue);
         exits = stored exit_fields 2 (exits_part a) (decode a).exits
-            (rows_hold exit_fields 2 wide_exit (omega arith) exit_at no_exit exit_field (words (exits_part a)) (omega (arith, exits_size a k.size)) k.exits);
+            (rows_hold exit_fields 2 wide_exit (omega arith) exit_at no_exit (words (exits_part a)) (exit_field (words (exits_part a)) k.exits_listed) (omega (arith, exits_size a k.size)) k.exits);
       }
 
 -- and back: what is left of a sound board is a sound area
@@ -165,6 +173,8 @@ is_area a s l h =
       sound = asked_shown a (record {
         size = k.size;
         registry = k.registry.sound;
+        threads_listed = threads_are_listed (words (threads_part a)) (decode a).threads k.threads.holds;
+        exits_listed = exits_are_listed (words (exits_part a)) (decode a).exits k.exits.holds;
         sound = sound_shown (decode a) (subst Sound (sym l.is) h);
         threads = hold_zeros thread_fields 21 wide (omega arith) (words (threads_part a)) (decode a).threads k.threads.holds;
         count = omega (arith, queue_size a k.size);

@@ -1,8 +1,7 @@
 -- What the functions on one part of the board's area leave. Assumes nothing.
-use Rattle.std.specs.Prelude.{◌≡◌, ℕ, ◌+◌, ◌*◌, ◌/◌, ◌^◌, ◌<◌, ◌≤◌, List, length, get_or, slice_index, slice_index_or, slice_set, refl}
+use Rattle.std.specs.Prelude.{◌≡◌, ℕ, ◌+◌, ◌*◌, ◌/◌, ◌^◌, ◌<◌, ◌≤◌, List, length, get_or, slice_index, slice_index_or, slice_set, refl, Option, None}
 use Rattle.std.proofs.Common.{arith, sym, ◌∙◌, length-set}
 use Rattle.std.proofs.Math.Path.{ap}
-use Rattle.std.proofs.Math.Option.{none}
 use Rattle.std.proofs.Math.Seq.{get_or-set_same, get_or-set_other}
 use Rattle.carv_area.specs.Table.{Row, at, put}
 use Rattle.carv_area.specs.Laws.Table.{rising_put}
@@ -18,11 +17,11 @@ use Rattle.carv_area.specs.Laws.Stored.{stored_room, stored_set, stored_remove, 
 use Rattle.carv_area.specs.Search.{rank_in}
 use Rattle.carv_area.specs.Laws.Lookup as lookup
 use Rattle.carv_area.specs.Lookup.{Located}
-use Rattle.carv_area.specs.declared.Found.{Found}
 use Rattle.carv_objects.specs.Laws.AreaSteps.{rising_set, rising_remove}
+use Rattle.carv_scheduler_spec.specs.declared.State.{State}
 use Rattle.carv_scheduler_spec.specs.declared.Thread.{Thread}
-use Rattle.carv_scheduler_spec.specs.Scheduler.{Board}
-use Rattle.carv_scheduler.specs.Area.{head, threads_part, queue_part, thread_fields, thread_at, decode}
+use Rattle.carv_scheduler_spec.specs.Scheduler.{Board, root_of}
+use Rattle.carv_scheduler.specs.Area.{head, threads_part, queue_part, thread_fields, state_at, budget_at, root_at, thread_at, decode}
 use Rattle.carv_scheduler.specs.Laws.Rows.{row, no_row, wide, set_thread, thread_at_is}
 use Rattle.carv_scheduler.specs.Laws.Formed.{WellFormed, Leaves, head_written, threads_written}
 
@@ -51,12 +50,12 @@ module _ (a : List ℕ) (z : length a ≡ 68_144) where
 
 -- the place among rising ids of an id that no thread has
 pub record Placed (m : List (Row Thread)) (x i : ℕ) : Type 0 where
-  pub within : at m x ≡ none → i ≤ length m
-  pub is : at m x ≡ none → (t : Thread) → put x t m ≡ insert_at m i (row x t)
+  pub within : at m x ≡ None → i ≤ length m
+  pub is : at m x ≡ None → (t : Thread) → put x t m ≡ insert_at m i (row x t)
 
 -- no thread has the id, which is a 64-bit number, and there is a place
 pub record New (m : List (Row Thread)) (x : ℕ) : Type 0 where
-  pub fresh : at m x ≡ none
+  pub fresh : at m x ≡ None
   pub few : length m < 128
   pub fits : x < 2 ^ 64
 
@@ -64,7 +63,7 @@ pub record New (m : List (Row Thread)) (x : ℕ) : Type 0 where
 module _ (a : List ℕ) (k : WellFormed a) where
   pub thread_placed : (x i : ℕ) → i ≡ rank_in (keys 21 (words (threads_part a))) x → Placed (decode a).threads x i
   thread_placed x i e =
-      let r : at (decode a).threads x ≡ none → (i ≤ length (decode a).threads) × ((t : Thread) → put x t (decode a).threads ≡ insert_at (decode a).threads i (row x t)) =
+      let r : at (decode a).threads x ≡ None → (i ≤ length (decode a).threads) × ((t : Thread) → put x t (decode a).threads ≡ insert_at (decode a).threads i (row x t)) =
       λ n. lookup.rows_placed thread_fields 21 wide (λ r. refl) no_row (omega arith) (threads_part a) (decode a).threads k.threads x i e n in
       record { within = λ n. (r n).0; is = λ n. (r n).1 }
 
@@ -81,7 +80,7 @@ module _ (a : List ℕ) (k : WellFormed a) where
   pub threads_keyed : Keyed 21 (threads_part a)
   threads_keyed = lookup.rows_keyed thread_fields 21 wide (λ r. refl) no_row (omega arith) (threads_part a) (decode a).threads k.threads 0 (2 ^ 64) k.rising
 
-  pub thread_found : (x : ℕ) (p : Found) → p ≡ find_in (keys 21 (words (threads_part a))) x → Located no_row (decode a).threads x p
+  pub thread_found : (x : ℕ) (p : Option ℕ) → p ≡ find_in (keys 21 (words (threads_part a))) x → Located no_row (decode a).threads x p
   thread_found x p e = lookup.rows_located thread_fields 21 wide (λ r. refl) no_row (omega arith) (threads_part a) (decode a).threads k.threads x p e
 
   pub threads_room : (slice_index (words (threads_part a)) 0 * 21 + 1) * 8 ≤ length (threads_part a)
@@ -99,6 +98,15 @@ module _ (a : List ℕ) (k : WellFormed a) where
 
     pub thread_is : (x : Thread) → x ≡ (thread_at (words (threads_part a)) i).it → x ≡ (get_or (decode a).threads i no_row).it
     thread_is x e = e ∙ ap (λ (r : Row Thread). r.it) thread_is_at
+
+    pub thread_state_is : (x : State) → x ≡ state_at (words (threads_part a)) (i * 21 + 2) → x ≡ (get_or (decode a).threads i no_row).it.state
+    thread_state_is x e = e ∙ ap (λ (r : Row Thread). r.it.state) thread_is_at
+
+    pub thread_budget_is : (x : Option ℕ) → x ≡ budget_at (words (threads_part a)) (i * 21 + 5) → x ≡ (get_or (decode a).threads i no_row).it.budget
+    thread_budget_is x e = e ∙ ap (λ (r : Row Thread). r.it.budget) thread_is_at
+
+    pub thread_root_is : (x : Option ℕ) → x ≡ root_at (words (threads_part a)) (i * 21 + 7) → x ≡ root_of (get_or (decode a).threads i no_row).it
+    thread_root_is x e = e ∙ ap (λ (r : Row Thread). root_of r.it) thread_is_at
 
     pub thread_id_is : (x : ℕ) → x ≡ slice_index (words (threads_part a)) (i * 21 + 1) → x ≡ (get_or (decode a).threads i no_row).id
     thread_id_is x e = e ∙ ap (λ (r : Row Thread). r.id) thread_is_at

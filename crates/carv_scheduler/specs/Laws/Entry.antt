@@ -1,19 +1,28 @@
 -- From a call on a sound area to its entry point, which asks question 1 in front. Assumes nothing.
-use Rattle.std.specs.Prelude.{◌≡◌, ℕ, Bool, true, false, not, List, refl}
-use Rattle.std.proofs.Common.{sym, ◌∙◌, true≢false}
-use Rattle.std.proofs.lemmas.Bool.{not-true, not-false}
-use Rattle.carv_scheduler.specs.declared.Answer.{Answer}
-use Rattle.carv_scheduler.specs.declared.Answer.TheVariants.{Refused}
-use Rattle.carv_scheduler_spec.specs.Scheduler.{Board, BoardReply}
+use Rattle.std.specs.Prelude.{◌≡◌, ℕ, true, false, List, refl, Option, Result, Ok, Err}
+use Rattle.std.proofs.Common.{sym, ap, ◌∙◌, true≢false}
+use Rattle.carv_area.specs.Laws.Table.{test}
+use Rattle.carv_objects.specs.declared.refusal.Refusal.{Refusal}
+use Rattle.carv_objects.specs.declared.refusal.Refusal.TheVariants.{Unsound}
+use Rattle.carv_objects.specs.Laws.Entry.{asked_sound}
+use Rattle.carv_scheduler_spec.specs.Scheduler.{Board, BoardReply, Value}
 use Rattle.carv_scheduler.specs.Area.{sound_area, Serves, Answered}
 
--- the answer b of `is_sound`
-pub entry_sound : (a : List ℕ) (b : Bool) → b ≡ sound_area a → not b ≡ false → sound_area a ≡ true
-entry_sound a b e y = sym e ∙ not-false b y
+-- the answer q of `ask_sound`
+module _ (a : List ℕ) (q : Result (Unit {0}) Refusal) (is : q ≡ asked_sound (sound_area a)) where
+  pub entry_sound : (u : Unit {0}) → q ≡ Ok u → sound_area a ≡ true
+  entry_sound u e = test (sound_area a) (λ y. y) (λ n. let z : Ok u ≡ asked_sound false = sym e ∙ is ∙ ap asked_sound n in absurd (cc z))
 
-module _ (call : Board → BoardReply) (a : List ℕ) (b : Bool) (e : b ≡ sound_area a) where
-  pub entry_refused : not b ≡ true → Answered call a (Refused 1) a
-  entry_refused n = record { refused = λ q. (refl, refl); served = λ q. absurd (true≢false (sym q ∙ sym e ∙ not-true b n)) }
+  entry_unsound : (n : Refusal) → q ≡ Err n → (sound_area a ≡ false) × (n ≡ Unsound)
+  entry_unsound n e = test (sound_area a)
+      (λ y. let z : Err n ≡ asked_sound true = sym e ∙ is ∙ ap asked_sound y in absurd (cc z))
+      (λ y. let z : Err n ≡ asked_sound false = sym e ∙ is ∙ ap asked_sound y in (y, cc z))
 
-  pub entry_served : not b ≡ false → (r : Answer) (a' : List ℕ) → Serves call a r a' → Answered call a r a'
-  entry_served y r a' h = record { refused = λ q. absurd (true≢false (sym (entry_sound a b e y) ∙ q)); served = λ q. h }
+  module _ {T : Type 0} {tells : T → Option Value} (call : Board → BoardReply) where
+    pub entry_refused : (n : Refusal) → q ≡ Err n → (r : Result T Refusal) → r ≡ Err n → Answered call tells a r a
+    entry_refused n e r k =
+        let (f, z) = entry_unsound n e in
+        record { refused = λ _. (k ∙ ap Err z, refl); served = λ y. absurd (true≢false (sym y ∙ f)) }
+
+    pub entry_served : (u : Unit {0}) → q ≡ Ok u → (r : Result T Refusal) (a' : List ℕ) → Serves call tells a r a' → Answered call tells a r a'
+    entry_served u e r a' h = record { refused = λ f. absurd (true≢false (sym (entry_sound u e) ∙ f)); served = λ _. h }

@@ -1,7 +1,6 @@
 -- The exit log: what its functions read and leave. Assumes nothing.
-use Rattle.std.specs.Prelude.{◌≡◌, ℕ, suc, ◌+◌, ◌*◌, ◌<◌, ◌≤◌, true, cond, List, [], ◌∷◌, ◌++◌, length, drop, set, ◌==◌, ◌≢◌, slice_index, slice_index_or, slice_set, refl}
+use Rattle.std.specs.Prelude.{◌≡◌, ℕ, suc, ◌+◌, ◌*◌, ◌<◌, ◌≤◌, true, cond, List, [], ◌∷◌, ◌++◌, length, drop, set, ◌==◌, ◌≢◌, slice_index, slice_index_or, slice_set, refl, Option, Some, None, option_map, find, Ok}
 use Rattle.std.proofs.Common.{sym, ap, ◌∙◌, subst, add-one, arith, length-drop, drop_of_length-le, drop-cons, eq-eqb, ne_eqb}
-use Rattle.std.proofs.Math.Option.{Option, none, some}
 use Rattle.std.proofs.lemmas.Bool.{eqb-false}
 use Rattle.carv_area.specs.Laws.Table.{test}
 use Rattle.carv_area.specs.Words.{words}
@@ -11,15 +10,17 @@ use Rattle.carv_area.specs.Moves.{cut_row}
 use Rattle.carv_area.specs.Rows.{remove_at}
 use Rattle.carv_area.specs.Stored.{Stored}
 use Rattle.carv_area.specs.Laws.Stored.{stored_room, stored_remove, stored_append}
+use Rattle.carv_scheduler_spec.specs.declared.Cause.{Cause}
 use Rattle.carv_scheduler_spec.specs.declared.Exit.{Exit}
-use Rattle.carv_scheduler.specs.declared.Answer.TheVariants.{Cause, NoCause}
-use Rattle.carv_scheduler_spec.specs.Scheduler.{Board, exit_cause, logged, exit_in, exit_of}
+use Rattle.carv_scheduler.specs.Answer.{cause_of}
+use Rattle.carv_scheduler_spec.specs.Codes.{cause_word}
+use Rattle.carv_scheduler_spec.specs.Scheduler.{Board, logged, exit_in, exit_of}
 use Rattle.carv_scheduler.specs.Area.{exits_part, exit_fields, exit_at, exits_in, decode, sound_area, Serves}
 use Rattle.carv_scheduler.specs.Laws.Rows.{no_exit, wide_exit, exit_at_is}
 use Rattle.carv_scheduler.specs.Laws.Formed.{WellFormed, Leaves, leaves_as, unchanged, exits_written}
 use Rattle.carv_scheduler.specs.Laws.Calls.{read_serves}
 
-abbrev pub exit : (thread cause : ℕ) → Exit
+abbrev pub exit : (thread : ℕ) → Cause → Exit
 exit thread cause = record { thread = thread; cause = cause }
 
 abbrev pub with_exits : List Exit → Board → Board
@@ -33,13 +34,13 @@ pub length_exits : (a : List ℕ) → length a ≡ 68_144 → length (part 67_62
 length_exits a z = length_part 67_624 520 a (omega arith)
 
 -- `append_exit`
-pub exit_appended : (t t' : List ℕ) → Stored exit_fields 2 t (exits_in (words t)) → (e : Exit) (n : ℕ) (l₁ l₂ : List ℕ) → n ≡ slice_index (words t) 0
-    → (length (exits_in (words t)) * 2 + 2) * 8 + 8 ≤ length t → l₁ ≡ slice_set (words t) (n * 2 + 1) e.thread → l₂ ≡ slice_set l₁ (n * 2 + 2) e.cause → words t' ≡ slice_set l₂ 0 (n + 1)
+pub exit_appended : (t t' : List ℕ) → Stored exit_fields 2 t (exits_in (words t)) → (e : Exit) (n v : ℕ) (l₁ l₂ : List ℕ) → v ≡ cause_word e.cause → n ≡ slice_index (words t) 0
+    → (length (exits_in (words t)) * 2 + 2) * 8 + 8 ≤ length t → l₁ ≡ slice_set (words t) (n * 2 + 1) e.thread → l₂ ≡ slice_set l₁ (n * 2 + 2) v → words t' ≡ slice_set l₂ 0 (n + 1)
     → Stored exit_fields 2 t' (exits_in (words t) ++ (e ∷ []))
-exit_appended t t' h e n l₁ l₂ en room p₁ p₂ q =
+exit_appended t t' h e n v l₁ l₂ ev en room p₁ p₂ q =
     let c : n ≡ length (exits_in (words t)) = en ∙ h.holds.count in
     let o : n * 2 + 2 ≡ suc (n * 2 + 1) = omega arith in
-    stored_append exit_fields 2 wide_exit t t' (exits_in (words t)) h e n l₂ en (omega arith) (p₂ ∙ ap (λ (l : List ℕ). set l (n * 2 + 2) e.cause) p₁ ∙ ap (λ (k : ℕ). set (slice_set (words t) (n * 2 + 1) e.thread) k e.cause) o) q
+    stored_append exit_fields 2 wide_exit t t' (exits_in (words t)) h e n l₂ en (omega arith) (p₂ ∙ ap (λ (m : ℕ). set l₁ (n * 2 + 2) m) ev ∙ ap (λ (l : List ℕ). set l (n * 2 + 2) (cause_word e.cause)) p₁ ∙ ap (λ (k : ℕ). set (slice_set (words t) (n * 2 + 1) e.thread) k (cause_word e.cause)) o) q
 
 -- What is read of a well-formed area.
 module _ (a : List ℕ) (k : WellFormed a) where
@@ -103,15 +104,15 @@ module _ (a a₁ : List ℕ) (k : WellFormed a) (h : Leaves a₁ (with_exits (sp
   logged_left e a₂ m = leaves_as a₂ _ _ (ap (λ (b : Board). with_exits (b.exits ++ (e ∷ [])) b) h.is) m
 
 -- the walk of `exit_of`: what is found from place i on
-module _ (l : List Exit) (x i : ℕ) (w : Option ℕ) (k : exit_in x (drop i l) ≡ w) where
-  pub exit_ends : length l ≤ i → none ≡ w
+module _ (l : List Exit) (x i : ℕ) (w : Option Cause) (k : exit_in x (drop i l) ≡ w) where
+  pub exit_ends : length l ≤ i → None ≡ w
   exit_ends h = ap (exit_in x) (sym (drop_of_length-le l h)) ∙ k
 
   module _ (h : i < length l) (e : Exit) (q : e ≡ slice_index_or l i no_exit) where
-    exit_turn : cond (e.thread == x) (some e.cause) (exit_in x (drop (suc i) l)) ≡ w
+    exit_turn : cond (e.thread == x) (Some e.cause) (exit_in x (drop (suc i) l)) ≡ w
     exit_turn = rw q (sym (ap (exit_in x) (drop-cons l i no_exit h)) ∙ k)
 
-    pub exit_found : e.thread ≡ x → some e.cause ≡ w
+    pub exit_found : e.thread ≡ x → Some e.cause ≡ w
     exit_found t = rw (eq-eqb e.thread x t) at exit_turn
 
     pub exit_on : (e.thread ≢ x) → exit_in x (drop (i + 1) l) ≡ w
@@ -119,8 +120,12 @@ module _ (l : List Exit) (x i : ℕ) (w : Option ℕ) (k : exit_in x (drop i l) 
 
 -- its answer
 module _ (a : List ℕ) (s : sound_area a ≡ true) (x : ℕ) where
-  pub cause_served : (c : ℕ) → some c ≡ exit_in x (decode a).exits → Serves (exit_of x) a (Cause c) a
-  cause_served c e = read_serves (exit_of x) a s (exit_of x (decode a)) refl refl (Cause c) refl (ap (λ (o : Option ℕ). some (exit_cause o)) e)
+  pub cause_served : (c : Option Cause) → c ≡ exit_in x (decode a).exits → Serves (exit_of x) cause_of a (Ok c) a
+  cause_served c e = read_serves (exit_of x) a s (exit_of x (decode a)) refl refl (Ok c) refl (ap cause_of e)
 
-  pub no_cause_served : none ≡ exit_in x (decode a).exits → Serves (exit_of x) a NoCause a
-  no_cause_served e = read_serves (exit_of x) a s (exit_of x (decode a)) refl refl NoCause refl (ap (λ (o : Option ℕ). some (exit_cause o)) e)
+-- a search for the first exit of the thread
+pub exit_sought : (x : ℕ) (l : List Exit) → option_map (λ (e : Exit). e.cause) (find (λ (e : Exit). e.thread == x) l) ≡ exit_in x l
+exit_sought x [] = refl
+exit_sought x (e ∷ l) = test (e.thread == x)
+    (λ p. rw p refl)
+    (λ p. rw p (exit_sought x l))

@@ -1,5 +1,5 @@
 -- What an opening leaves: the registry's opening, the other parts cleared, and two threads. Assumes nothing.
-use Rattle.std.specs.Prelude.{◌≡◌, ℕ, suc, ◌+◌, ◌-◌, ◌*◌, ◌/◌, ◌<◌, ◌≤◌, List, [], length, take, drop, ◌≢◌, slice_index, refl}
+use Rattle.std.specs.Prelude.{◌≡◌, ℕ, suc, ◌+◌, ◌-◌, ◌*◌, ◌/◌, ◌<◌, ◌≤◌, List, [], length, take, drop, ◌≢◌, slice_index, refl, Result, Ok, Err, None}
 use Rattle.std.proofs.Common.{sym, ap, ◌∙◌, true≢false, append-nil, arith, drop_of_length-le, take_all, ext_get_or, get_or-take, get_or-drop, eqb-true, eq-eqb, le-leb}
 use Rattle.std.proofs.lemmas.List.{length-replicate, get_or-replicate}
 use Rattle.std.proofs.lemmas.Bool.{eqb-false, lt-leb}
@@ -14,12 +14,13 @@ use Rattle.carv_area.specs.Laws.Rows.{hold}
 use Rattle.carv_area.specs.Stored.{one}
 use Rattle.carv_area.specs.Laws.Stored.{stored, wide_one}
 use Rattle.carv_budget.specs.Account.{period}
-use Rattle.carv_objects.specs.declared.Answer as registry_answer
+use Rattle.carv_objects.specs.declared.refusal.Refusal.{Refusal}
 use Rattle.carv_objects_spec.specs.Registry as registry
 use Rattle.carv_objects.specs.Area as registry_area
-use Rattle.carv_scheduler.specs.declared.Answer.TheVariants.{Done, Refused}
+use Rattle.carv_objects.specs.declared.refusal.Refusal.TheVariants.{Unsound, Share}
 use Rattle.carv_scheduler_spec.specs.declared.Thread.{Thread}
-use Rattle.carv_scheduler_spec.specs.Scheduler.{Board, idle, ready, running, no_budget_id, fresh, opening}
+use Rattle.carv_scheduler_spec.specs.declared.State.TheVariants.{Ready, Running}
+use Rattle.carv_scheduler_spec.specs.Scheduler.{Board, idle, fresh, opening}
 use Rattle.carv_scheduler_spec.proofs.Laws.Kept.{opening_sound}
 use Rattle.carv_scheduler.specs.Area.{registry_part, head, threads_part, queue_part, exits_part, thread_fields, exit_fields, Opened}
 use Rattle.carv_scheduler.specs.Laws.Rows.{wide, wide_exit}
@@ -52,7 +53,7 @@ pub record RegistryOpened (cpu memory : ℕ) (a a' : List ℕ) : Type 0 where
   pub size : length a' ≡ length a
   pub registry : registry_area.Is (part 0 45_072 a') (registry.opening cpu memory)
 
-pub registry_opened : (cpu memory : ℕ) (a p : List ℕ) (r : registry_answer.Answer) → length a ≡ 68_144 → length p ≡ 45_072 → cpu ≤ period
+pub registry_opened : (cpu memory : ℕ) (a p : List ℕ) (r : Result (Unit {0}) Refusal) → length a ≡ 68_144 → length p ≡ 45_072 → cpu ≤ period
     → registry_area.Opened cpu memory (part 0 45_072 a) r p → RegistryOpened cpu memory a (put_part 0 45_072 a p)
 registry_opened cpu memory a p r z y c h =
     let fits : 0 + 45_072 ≤ length a = omega arith in
@@ -125,12 +126,12 @@ first_new cpu memory b e = rw e (record { fresh = refl; few = omega arith; fits 
 pub idle_new : (cpu memory : ℕ) (b b₁ : Board) (t u : Thread) → b ≡ blank_board cpu memory → b₁ ≡ with_threads (put 0 t b.threads) b → New b₁.threads idle
 idle_new cpu memory b b₁ t u e e₁ = rw (e₁, e) (record { fresh = refl; few = omega arith; fits = omega arith })
 
-pub board_opened : (cpu memory : ℕ) (b b₁ b₂ : Board) (t u : Thread) → b ≡ blank_board cpu memory → t ≡ fresh running no_budget_id → u ≡ fresh ready no_budget_id
+pub board_opened : (cpu memory : ℕ) (b b₁ b₂ : Board) (t u : Thread) → b ≡ blank_board cpu memory → t ≡ fresh Running None → u ≡ fresh Ready None
     → b₁ ≡ with_threads (put 0 t b.threads) b → b₂ ≡ with_threads (put idle u b₁.threads) b₁ → b₂ ≡ opening cpu memory
 board_opened cpu memory b b₁ b₂ t u e et eu e₁ e₂ = rw (e₂, e₁, e, et, eu)
 
 module _ (cpu memory : ℕ) (a : List ℕ) where
-  pub opened_size : (length a ≢ 68_144) → Opened cpu memory a (Refused 1) a
+  pub opened_size : (length a ≢ 68_144) → Opened cpu memory a (Err Unsound) a
   opened_size n = record {
     size = λ q. (refl, refl);
     share = λ q. absurd (n (eqb-true (length a) 68_144 q));
@@ -138,14 +139,14 @@ module _ (cpu memory : ℕ) (a : List ℕ) where
   }
 
   module _ (z : length a ≡ 68_144) where
-    pub opened_share : period < cpu → Opened cpu memory a (Refused 2) a
+    pub opened_share : period < cpu → Opened cpu memory a (Err Share) a
     opened_share h = record {
       size = λ q. absurd (eqb-false (length a) 68_144 q z);
       share = λ q s. (refl, refl);
       opened = λ q s. absurd (true≢false (sym s ∙ lt-leb cpu period h));
     }
 
-    pub opened_done : cpu ≤ period → (a' : List ℕ) (s : Board) → Leaves a' s → s ≡ opening cpu memory → Opened cpu memory a Done a'
+    pub opened_done : cpu ≤ period → (a' : List ℕ) (s : Board) → Leaves a' s → s ≡ opening cpu memory → Opened cpu memory a (Ok tt) a'
     opened_done h a' s l e = record {
       size = λ q. absurd (eqb-false (length a) 68_144 q z);
       share = λ q n. absurd (true≢false (sym (le-leb cpu period h) ∙ n));

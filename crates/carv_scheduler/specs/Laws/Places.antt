@@ -1,15 +1,14 @@
 -- Threads by their place and by their id: what stands at a place, and what a place that was looked for says. Assumes nothing.
-use Rattle.std.specs.Prelude.{◌≡◌, ℕ, zero, suc, ◌<◌, ◌≤◌, true, false, List, [], ◌∷◌, length, nat_eq, slice_index_or}
+use Rattle.std.specs.Prelude.{◌≡◌, ℕ, zero, suc, ◌<◌, ◌≤◌, true, false, List, [], ◌∷◌, length, nat_eq, slice_index_or, Option, Some, None}
 use Rattle.std.proofs.Common.{not-suc-le-zero, le_of_suc-le-suc, arith, ap, subst}
 use Rattle.std.proofs.Math.Path.{refl}
 use borrow.Author.Tests.{eq-eqb, ne_eqb}
 use Rattle.carv_area.specs.Table.{Row, Rising}
 use Rattle.carv_area.specs.Rows.{remove_at}
 use Rattle.carv_area.specs.Lookup.{Here, Gone, Located}
-use Rattle.carv_area.specs.declared.Found.{Found}
-use Rattle.carv_area.specs.declared.Found.TheVariants.{At, Nothing}
 use Rattle.carv_scheduler_spec.specs.declared.Thread.{Thread}
-use Rattle.carv_scheduler_spec.specs.Scheduler.{inactive, no_budget_id, fresh, or_fresh, found, thread, has}
+use Rattle.carv_scheduler_spec.specs.declared.State.TheVariants.{Inactive}
+use Rattle.carv_scheduler_spec.specs.Scheduler.{fresh, or_fresh, found, thread, has}
 use Rattle.carv_scheduler.specs.Laws.Rows.{no_row}
 
 -- the row at place i of rising ids is the one with its id
@@ -37,11 +36,11 @@ module _ {A : Type 0} (d : Row A) where
       }
 
 -- what was found
-module _ (m : List (Row Thread)) (x : ℕ) (p : Found) (l : Located no_row m x p) where
-  pub found_here : (i : ℕ) → p ≡ At i → Here no_row m x i
+module _ (m : List (Row Thread)) (x : ℕ) (p : Option ℕ) (l : Located no_row m x p) where
+  pub found_here : (i : ℕ) → p ≡ Some i → Here no_row m x i
   found_here i e = subst (Located no_row m x) e l
 
-  pub found_gone : p ≡ Nothing → Gone m x
+  pub found_gone : p ≡ None → Gone m x
   found_gone e = subst (Located no_row m x) e l
 
 -- the thread x stands at place i
@@ -57,5 +56,5 @@ module _ (m : List (Row Thread)) (x : ℕ) (g : Gone m x) where
   pub gone_has : has m x ≡ false
   gone_has = ap found g.is
 
-  pub gone_thread : thread m x ≡ fresh inactive no_budget_id
+  pub gone_thread : thread m x ≡ fresh Inactive None
   gone_thread = ap or_fresh g.is

@@ -1,17 +1,19 @@
 -- Planning on the area: putting back, switching, and the whole plan, from what the calls leave. Assumes nothing.
-use Rattle.std.specs.Prelude.{◌≡◌, ℕ, ◌+◌, ◌*◌, ◌%◌, ◌^◌, ◌<◌, ◌≤◌, Bool, true, false, cond, not, List, [], ◌∷◌, ◌++◌, length, get_or, ◌==◌, ◌≢◌, nat_eq, slice_index_or, slice_set, refl}
-use Rattle.std.proofs.Common.{arith, sym, ap, ◌∙◌, subst, eq-eqb, ne_eqb, le-leb}
-use Rattle.std.proofs.Math.Option.{Option, none, some}
+use Rattle.std.specs.Prelude.{◌≡◌, ℕ, ◌+◌, ◌*◌, ◌%◌, ◌^◌, ◌<◌, ◌≤◌, Bool, true, false, cond, not, List, [], ◌∷◌, ◌++◌, length, get_or, ◌==◌, ◌≢◌, slice_index_or, slice_set, refl, Option, Some, Ok, Err}
+use Rattle.std.proofs.Common.{arith, sym, ap, ◌∙◌, subst, true≢false, eq-eqb, ne_eqb, le-leb}
 use Rattle.std.proofs.lemmas.Bool.{lt-leb, not-true, not-false}
 use Rattle.carv_area.specs.Table.{Row, alter, erase}
 use Rattle.carv_area.specs.Rows.{remove_at}
 use Rattle.carv_area.specs.Lookup.{Located, Here, Gone}
 use Rattle.carv_objects_spec.specs.Reply.{refuse, accept}
+use Rattle.carv_scheduler_spec.specs.declared.State.{State}
+use Rattle.carv_scheduler_spec.specs.declared.State.TheVariants.{Inactive, Ready, Running, Blocked, Dead}
 use Rattle.carv_scheduler_spec.specs.declared.Thread.{Thread}
-use Rattle.carv_scheduler.specs.declared.Answer.{Answer}
-use Rattle.carv_scheduler.specs.declared.Answer.TheVariants.{NoSwitch, Switch, SwitchToKernel, Refused}
+use Rattle.carv_objects.specs.declared.refusal.Refusal.TheVariants.{Tick}
+use Rattle.carv_scheduler.specs.declared.planning.Switch.{Switch}
+use Rattle.carv_scheduler.specs.Answer.{switch_of}
 use Rattle.carv_scheduler.specs.declared.planning.Chosen.{Chosen}
-use Rattle.carv_scheduler_spec.specs.Scheduler.{Board, Choice, switch, idle, tick_ns, ready, running, dead, is, no_wait, thread, become, root_of, put_back, switch_to, switch_value, plan}
+use Rattle.carv_scheduler_spec.specs.Scheduler.{Board, Choice, idle, tick_ns, ready, running, dead, is, thread, become, put_back, switch_to, switch_value, plan}
 use Rattle.carv_scheduler.specs.Area.{decode, sound_area, Serves}
 use Rattle.carv_scheduler.specs.Laws.Rows.{no_row}
 use Rattle.carv_scheduler.specs.Laws.Formed.{WellFormed, Leaves, leaves_as, unchanged}
@@ -24,7 +26,14 @@ use Rattle.carv_scheduler_spec.proofs.Laws.Reading.{and_false, thread_alter}
 use Rattle.carv_scheduler.specs.Laws.Room.{queue_room}
 use Rattle.carv_scheduler.specs.Laws.RowWords.{with_state, state_of}
 use Rattle.carv_scheduler.specs.Laws.Places.{here_has, here_thread, gone_thread}
-use Rattle.carv_scheduler.specs.Laws.Planning.{Backs, Chooses, Values, Runs, Leaving, Switches, choice, choice_of, taken}
+use Rattle.carv_scheduler.specs.Laws.Planning.{Backs, Chooses, Told, Runs, Leaving, Switches, choice, choice_of, taken}
+
+ran : (y : State) → running y ≡ true → y ≡ Running
+ran Inactive e = absurd (true≢false (sym e))
+ran Ready e = absurd (true≢false (sym e))
+ran Running e = refl
+ran (Blocked w) e = absurd (true≢false (sym e))
+ran Dead e = absurd (true≢false (sym e))
 
 -- Putting back: a board whose current thread, x, stays, and one whose current thread goes to the queue.
 
@@ -36,7 +45,7 @@ module _ (b : Board) (x : ℕ) (ex : x ≡ b.current) where
   back_idle i = rw (eq-eqb b.current idle (sym ex ∙ i))
 
   back_goes : (x ≢ idle) → is running (thread b.threads x) ≡ true
-      → put_back b ≡ with_queue (b.queue ++ (x ∷ [])) (with_threads (alter x (become ready no_wait) b.threads) b)
+      → put_back b ≡ with_queue (b.queue ++ (x ∷ [])) (with_threads (alter x (become Ready) b.threads) b)
   back_goes n f =
       let e : is running (thread b.threads b.current) ≡ true = rw ex at f in
       rw (ne_eqb b.current idle (λ q. n (ex ∙ q)), e, ← ex)
@@ -51,70 +60,46 @@ module _ (a : List ℕ) (s : sound_area a ≡ true) (x : ℕ) (ex : x ≡ (decod
       let t = gone_thread (decode a).threads x g in
       left_so (back_stays (decode a) x ex (ap (is running) t)) false (sym (ap (is dead) t))
 
-  module _ (i : ℕ) (h : Here no_row (decode a).threads x i) (y : ℕ) (ey : y ≡ (get_or (decode a).threads i no_row).it.state) where
-    state_here : y ≡ (thread (decode a).threads x).state
-    state_here = ey ∙ sym (ap (λ (t : Thread). t.state) (here_thread (decode a).threads x i h))
+  -- it stands at place i, and is in state y
+  module _ (i : ℕ) (h : Here no_row (decode a).threads x i) (y : State) (ey : y ≡ (get_or (decode a).threads i no_row).it.state) where
+    here : (s : State → Bool) → s y ≡ is s (thread (decode a).threads x)
+    here s = ap s ey ∙ sym (ap (is s) (here_thread (decode a).threads x i h))
 
-    state_is : (n : ℕ) → (y == n) ≡ is n (thread (decode a).threads x)
-    state_is n = ap (λ (z : ℕ). nat_eq z n) state_here
+    pub backs_not : running y ≡ false → (r : Bool) → r ≡ dead y → Backs x a r a
+    backs_not n r e = left_so (back_stays (decode a) x ex (sym (here running) ∙ n)) r (e ∙ here dead)
 
-    pub backs_not : (y ≢ 3) → Backs x a (y == 5) a
-    backs_not n = left_so (back_stays (decode a) x ex (sym (state_is 3) ∙ ne_eqb y 3 n)) (y == 5) (state_is 5)
+    module _ (run : running y ≡ true) where
+      is_running : y ≡ Running
+      is_running = ran y run
 
-    module _ (run : y ≡ 3) where
       pub backs_idle : x ≡ idle → Backs x a false a
-      backs_idle e = left_so (back_idle (decode a) x ex e) false (sym (sym (state_is 5) ∙ ap (λ (z : ℕ). nat_eq z 5) run))
+      backs_idle e = left_so (back_idle (decode a) x ex e) false (sym (ap dead is_running) ∙ here dead)
 
-      module _ (n : x ≡ idle → ⊥) (a₁ : List ℕ) (l : Leaves a₁ (with_threads (slice_set (decode a).threads i (with_state 2 no_wait (slice_index_or (decode a).threads i no_row))) (decode a))) where
+      module _ (n : x ≡ idle → ⊥) (a₁ : List ℕ) (l : Leaves a₁ (with_threads (slice_set (decode a).threads i (with_state Ready (slice_index_or (decode a).threads i no_row))) (decode a))) where
         pub backs_room : length (decode a₁).queue < 127
         backs_room =
-            let q = queue_room (decode a) (area_sound a s) x (here_has (decode a).threads x i h) (sym (state_is 2) ∙ ap (λ (z : ℕ). nat_eq z 2) run) (ne_eqb x idle n) in
+            let q = queue_room (decode a) (area_sound a s) x (here_has (decode a).threads x i h) (sym (here ready) ∙ ap ready is_running) (ne_eqb x idle n) in
             let e = ap (λ (b : Board). length b.queue) l.is in
             omega arith
 
         pub backs_goes : (a₂ : List ℕ) → Leaves a₂ (with_queue ((decode a₁).queue ++ (x ∷ [])) (decode a₁)) → Backs x a false a₂
         backs_goes a₂ k =
-            let e = back_goes (decode a) x ex n (sym (state_is 3) ∙ ap (λ (z : ℕ). nat_eq z 3) run) in
+            let e = back_goes (decode a) x ex n (sym (here running) ∙ run) in
             let m = (decode a).threads in
-            let t : thread (alter x (become ready no_wait) m) x ≡ become ready no_wait (thread m x) =
-            thread_alter m x (become ready no_wait) (here_has m x i h) x ∙ ap (λ (z : Bool). cond z (become ready no_wait (thread m x)) (thread m x)) (eq-eqb x x refl) in (
+            let t : thread (alter x (become Ready) m) x ≡ become Ready (thread m x) =
+            thread_alter m x (become Ready) (here_has m x i h) x ∙ ap (λ (z : Bool). cond z (become Ready (thread m x)) (thread m x)) (eq-eqb x x refl) in (
               sym (ap (λ (b : Board). is dead (thread b.threads x)) e ∙ ap (is dead) t),
               leaves_as a₂ _ _ (ap (λ (b : Board). with_queue (b.queue ++ (x ∷ [])) b) l.is
-                  ∙ ap (λ (z : List (Row Thread)). with_queue ((decode a).queue ++ (x ∷ [])) (with_threads z (decode a))) (state_of m x i h 2 no_wait) ∙ sym e) k,
+                  ∙ ap (λ (z : List (Row Thread)). with_queue ((decode a).queue ++ (x ∷ [])) (with_threads z (decode a))) (state_of m x i h Ready) ∙ sym e) k,
             )
-
--- The answer.
-module _ (old x : ℕ) (b : Board) where
-  pub says_same : x ≡ old → Values old x b NoSwitch
-  says_same e = record { number = refl; value = rw (eq-eqb x old e) }
-
-  module _ (n : x ≡ old → ⊥) where
-    switched : (r : Option ℕ) → root_of (thread b.threads x) ≡ r → some (switch_value old (choice x b) b) ≡ some (switch old x r)
-    switched r e = rw (ne_eqb x old n, e)
-
-    pub says_gone : Gone b.threads x → Values old x b (SwitchToKernel old x)
-    says_gone g = record { number = refl; value = sym (switched none (ap root_of (gone_thread b.threads x g))) }
-
-    module _ (i : ℕ) (h : Here no_row b.threads x i) (y : ℕ) (ey : y ≡ (get_or b.threads i no_row).it.spaces.is) where
-      pub says_kernel : y ≡ 0 → Values old x b (SwitchToKernel old x)
-      says_kernel z = record {
-        number = refl;
-        value = sym (switched none (ap root_of (here_thread b.threads x i h) ∙ rw (eq-eqb (get_or b.threads i no_row).it.spaces.is 0 (sym ey ∙ z))));
-      }
-
-      pub says_root : (y ≢ 0) → (r : ℕ) → r ≡ (get_or b.threads i no_row).it.spaces.root → Values old x b (Switch old x r)
-      says_root z r er = record {
-        number = refl;
-        value = sym (switched (some r) (ap root_of (here_thread b.threads x i h) ∙ rw (ne_eqb (get_or b.threads i no_row).it.spaces.is 0 (λ q. z (ey ∙ q)), er)));
-      }
 
 -- The chosen thread runs.
 pub runs_at : (a : List ℕ) (x i : ℕ) → Here no_row (decode a).threads x i → (a' : List ℕ)
-    → Leaves a' (with_threads (slice_set (decode a).threads i (with_state 3 no_wait (slice_index_or (decode a).threads i no_row))) (decode a)) → Runs x a a'
-runs_at a x i h a' l = leaves_as a' _ _ (ap (λ (m : List (Row Thread)). with_threads m (decode a)) (state_of (decode a).threads x i h 3 no_wait)) l
+    → Leaves a' (with_threads (slice_set (decode a).threads i (with_state Running (slice_index_or (decode a).threads i no_row))) (decode a)) → Runs x a a'
+runs_at a x i h a' l = leaves_as a' _ _ (ap (λ (m : List (Row Thread)). with_threads m (decode a)) (state_of (decode a).threads x i h Running)) l
 
 pub runs_gone : (a : List ℕ) → WellFormed a → (x : ℕ) → Gone (decode a).threads x → Runs x a a
-runs_gone a k x g = leaves_as a _ _ (sym (ap (λ (m : List (Row Thread)). with_threads m (decode a)) (g.changed (become running no_wait)))) (unchanged a k)
+runs_gone a k x g = leaves_as a _ _ (sym (ap (λ (m : List (Row Thread)). with_threads m (decode a)) (g.changed (become Running)))) (unchanged a k)
 
 -- A dead thread that is left goes.
 module _ (a : List ℕ) (k : WellFormed a) (x : ℕ) (g : Bool) where
@@ -137,7 +122,7 @@ pub counted : (a : List ℕ) (x n w : ℕ) → n ≡ (decode a).switches → w �
 counted a x n w en ew a' l = leaves_as a' _ _ (ap (λ (z : ℕ). with_head x z (decode a)) (ew ∙ ap (λ (z : ℕ). (z + 1) % 2 ^ 64) en)) l
 
 -- The switch of the board b, whose current thread is old, to x.
-module _ (b : Board) (x old : ℕ) (eo : old ≡ b.current) (b₁ : Board) (e₁ : b₁ ≡ with_threads (alter x (become running no_wait) b.threads) b) where
+module _ (b : Board) (x old : ℕ) (eo : old ≡ b.current) (b₁ : Board) (e₁ : b₁ ≡ with_threads (alter x (become Running) b.threads) b) where
   stayed : x ≡ old → b₁ ≡ switch_to (choice x b) b
   stayed e =
       let q : x ≡ b.current = e ∙ eo in
@@ -147,22 +132,22 @@ module _ (b : Board) (x old : ℕ) (eo : old ≡ b.current) (b₁ : Board) (e₁
       (e₃ : b₃ ≡ with_threads (cond g (erase old b₂.threads) b₂.threads) b₂) where
     moved : b₃ ≡ switch_to (choice x b) b
     moved =
-        let m = alter x (become running no_wait) b.threads in
+        let m = alter x (become Running) b.threads in
         let q : b₂ ≡ with_head x ((b.switches + 1) % 2 ^ 64) (with_threads m b) = e₂ ∙ ap (λ (z : Board). with_head x ((z.switches + 1) % 2 ^ 64) z) e₁ in
         let d : g ≡ is dead (thread b.threads b.current) = rw eo at eg in
         e₃ ∙ ap (λ (z : Board). with_threads (cond g (erase old z.threads) z.threads) z) q ∙ rw (ne_eqb x b.current (λ z. n (z ∙ sym eo)), ← d, eo)
 
-module _ (a : List ℕ) (x old : ℕ) (eo : old ≡ (decode a).current) (r : Answer) (v : Values old x (decode a) r) (a₁ : List ℕ) (l₁ : Runs x a a₁) where
-  said : Values (decode a).current x (decode a) r
-  said = subst (λ (z : ℕ). Values z x (decode a) r) eo v
+module _ (a : List ℕ) (x old : ℕ) (eo : old ≡ (decode a).current) (r : Option Switch) (v : Told old x (decode a) r) (a₁ : List ℕ) (l₁ : Runs x a a₁) where
+  said : Told (decode a).current x (decode a) r
+  said = subst (λ (z : ℕ). Told z x (decode a) r) eo v
 
   pub switches_not : x ≡ old → Switches x a r a₁
-  switches_not e = record { values = said; area = record { formed = l₁.formed; is = stayed (decode a) x old eo (decode a₁) l₁.is e } }
+  switches_not e = record { told = said; area = record { formed = l₁.formed; is = stayed (decode a) x old eo (decode a₁) l₁.is e } }
 
   pub switches_so : (x ≢ old) → (g : Bool) → g ≡ is dead (thread (decode a).threads old) → (a₂ : List ℕ) → Leaves a₂ (with_head x (((decode a₁).switches + 1) % 2 ^ 64) (decode a₁))
       → (a₃ : List ℕ) → Leaving old g a₂ a₃ → Switches x a r a₃
   switches_so n g eg a₂ l₂ a₃ l₃ = record {
-    values = said;
+    told = said;
     area = record { formed = l₃.formed; is = moved (decode a) x old eo (decode a₁) l₁.is n g eg (decode a₂) (decode a₃) l₂.is l₃.is };
   }
 
@@ -172,12 +157,12 @@ module _ (n : ℕ) (b : Board) where
   plan_late h = rw (lt-leb n 18_446_744_073_709 h)
 
   plan_done : n ≤ 18_446_744_073_709
-      → plan n b ≡ accept (some (switch_value b.current (choice_of (n * tick_ns) (put_back b)) (put_back b))) (switch_to (choice_of (n * tick_ns) (put_back b)) (put_back b))
+      → plan n b ≡ accept (Some (switch_value b.current (choice_of (n * tick_ns) (put_back b)) (put_back b))) (switch_to (choice_of (n * tick_ns) (put_back b)) (put_back b))
   plan_done h = rw (le-leb n 18_446_744_073_709 h)
 
 module _ (a : List ℕ) (s : sound_area a ≡ true) (n : ℕ) where
-  pub plan_refused : 18_446_744_073_709 < n → Serves (plan n) a (Refused 3) a
-  plan_refused h = refused (plan n) a s 3 (plan_late n (decode a) h)
+  pub plan_refused : 18_446_744_073_709 < n → Serves (plan n) switch_of a (Err Tick) a
+  plan_refused h = refused (plan n) a s Tick (plan_late n (decode a) h)
 
   module _ (old : ℕ) (eo : old ≡ (decode a).current) (g : Bool) (a₁ : List ℕ) (k₁ : Backs old a g a₁) (time : ℕ) (c : Chosen) (a₂ : List ℕ) (k₂ : Chooses time a₁ c a₂) where
     board₁ : decode a₁ ≡ put_back (decode a)
@@ -198,7 +183,7 @@ module _ (a : List ℕ) (s : sound_area a ≡ true) (n : ℕ) where
     pub planned_here : Located no_row (decode a₂).threads c.id c.at
     planned_here = subst (λ (m : List (Row Thread)). Located no_row m c.id c.at) (sym threads₂) k₂.here
 
-    pub planned : n ≤ 18_446_744_073_709 → time ≡ n * tick_ns → (r : Answer) (a₃ : List ℕ) → Switches c.id a₂ r a₃ → Serves (plan n) a r a₃
+    pub planned : n ≤ 18_446_744_073_709 → time ≡ n * tick_ns → (r : Option Switch) (a₃ : List ℕ) → Switches c.id a₂ r a₃ → Serves (plan n) switch_of a (Ok r) a₃
     planned h et r a₃ k₃ =
         let b = put_back (decode a) in
         let z = choice_of (n * tick_ns) b in
@@ -209,6 +194,6 @@ module _ (a : List ℕ) (s : sound_area a ≡ true) (n : ℕ) where
         ap (λ (u : Board). switch_value u.current (choice c.id u) u) e₂
         ∙ ap (λ (i : ℕ). switch_value b.current (choice i (taken z b)) (taken z b)) x
         ∙ ap (λ (o : ℕ). switch_value o z b) (put_back_current (decode a)) in
-        answered (plan n) a s _ (plan_done n (decode a) h) r k₃.values.number (k₃.values.value ∙ ap some v) a₃
+        answered (plan n) a s _ (plan_done n (decode a) h) (Ok r) refl (k₃.told ∙ ap Some v) a₃
         (leaves_as a₃ _ _ (ap (λ (u : Board). switch_to (choice c.id u) u) e₂ ∙ ap (λ (i : ℕ). switch_to (choice i (taken z b)) (taken z b)) x) k₃.area)
         (plan_kept n (decode a) (area_sound a s))

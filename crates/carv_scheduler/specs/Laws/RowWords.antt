@@ -11,22 +11,24 @@ use Rattle.carv_area.specs.Parts.{put_part}
 use Rattle.carv_area.specs.Rows.{Holds}
 use Rattle.carv_area.specs.Laws.Rows.{holds_word, holds_set, holds_inj}
 use Rattle.carv_area.specs.Lookup.{Here}
-use Rattle.carv_scheduler_spec.specs.declared.Wait.{Wait}
+use Rattle.carv_scheduler_spec.specs.declared.State.{State}
+use Rattle.carv_scheduler_spec.specs.declared.State.TheVariants.{Ready}
 use Rattle.carv_scheduler_spec.specs.declared.Results.{Results}
 use Rattle.carv_scheduler_spec.specs.declared.Thread.{Thread}
-use Rattle.carv_scheduler_spec.specs.Scheduler.{ready, no_wait, become, woken, ticked}
+use Rattle.carv_scheduler_spec.specs.Scheduler.{become, woken, ticked}
+use Rattle.carv_scheduler_spec.specs.Codes.{state_word, kind_word, number_word}
 use Rattle.carv_scheduler.specs.Area.{threads_part, thread_fields, decode}
 use Rattle.carv_scheduler.specs.Laws.Rows.{row, no_row, wide, set_state, set_results, set_ticks, set_woken, set_thread}
 use Rattle.carv_scheduler.specs.Laws.Formed.{WellFormed, Leaves}
 use Rattle.carv_scheduler.specs.Laws.AreaSteps.{with_threads, thread_set}
 
--- the row r with another state and wait
-abbrev pub with_state : ℕ → Wait → Row Thread → Row Thread
-with_state s w r = row r.id (become s w r.it)
+-- the row r with another state
+abbrev pub with_state : State → Row Thread → Row Thread
+with_state s r = row r.id (become s r.it)
 
 -- the thread x, by its place
-pub state_of : (m : List (Row Thread)) (x i : ℕ) → Here no_row m x i → (s : ℕ) (w : Wait) → slice_set m i (with_state s w (slice_index_or m i no_row)) ≡ alter x (become s w) m
-state_of m x i h s w = rw h.same (sym (h.changed (become s w)))
+pub state_of : (m : List (Row Thread)) (x i : ℕ) → Here no_row m x i → (s : State) → slice_set m i (with_state s (slice_index_or m i no_row)) ≡ alter x (become s) m
+state_of m x i h s = rw h.same (sym (h.changed (become s)))
 
 -- a run of stores, and one more before it or in it, or a run in it
 
@@ -62,17 +64,17 @@ module _ (l : List ℕ) (rows : List (Row Thread)) (h : Holds thread_fields 21 l
       rw (set-get_or rows i no_row) at (holds_set thread_fields 21 wide l rows h i (slice_index_or rows i no_row) a) in
       holds_inj thread_fields 21 wide _ l rows k h (length-sets l (i * 21 + 1) (thread_fields (slice_index_or rows i no_row)))
 
-  state_set : (s : ℕ) (w : Wait) → set_state l i s w ≡ set_thread l i (with_state s w (slice_index_or rows i no_row))
+  state_set : (s : State) → set_state l i s ≡ set_thread l i (with_state s (slice_index_or rows i no_row))
   unfolding set_state set_thread
-  state_set s w =
-      ap (λ (m : List ℕ). set_state m i s w) (sym row_same)
-      ∙ some_set l i (thread_fields (slice_index_or rows i no_row)) refl 1 (s ∷ w.kind ∷ w.number ∷ []) (omega arith) (i * 21 + 2) (omega arith)
+  state_set s =
+      ap (λ (m : List ℕ). set_state m i s) (sym row_same)
+      ∙ some_set l i (thread_fields (slice_index_or rows i no_row)) refl 1 (state_word s ∷ kind_word s ∷ number_word s ∷ []) (omega arith) (i * 21 + 2) (omega arith)
 
   woken_set : (r : Results) → set_woken l i r ≡ set_thread l i (row (get_or rows i no_row).id (woken r (get_or rows i no_row).it))
   unfolding set_results set_thread
   woken_set r =
-      ap (λ (m : List ℕ). set_results m i r) (state_set ready no_wait)
-      ∙ some_set l i (thread_fields (with_state ready no_wait (slice_index_or rows i no_row))) refl 17 (r.first ∷ r.second ∷ r.third ∷ []) (omega arith) (i * 21 + 18) (omega arith)
+      ap (λ (m : List ℕ). set_results m i r) (state_set Ready)
+      ∙ some_set l i (thread_fields (with_state Ready (slice_index_or rows i no_row))) refl 17 (r.first ∷ r.second ∷ r.third ∷ []) (omega arith) (i * 21 + 18) (omega arith)
 
   ticks_set : (n : ℕ) → n ≡ (slice_index l (i * 21 + 21) + 1) % 2 ^ 64 → set_ticks l i n ≡ set_thread l i (row (get_or rows i no_row).id (ticked (get_or rows i no_row).it))
   unfolding set_ticks set_thread
@@ -83,18 +85,10 @@ module _ (l : List ℕ) (rows : List (Row Thread)) (h : Holds thread_fields 21 l
 
 -- What is read of a well-formed area, and left where one part was written, p.
 module _ (a : List ℕ) (k : WellFormed a) (i : ℕ) (h : i < length (decode a).threads) where
-  pub word_is : (c x : ℕ) → c < 21 → x ≡ slice_index (words (threads_part a)) (i * 21 + 1 + c) → x ≡ slice_index (thread_fields (slice_index_or (decode a).threads i no_row)) c
-  word_is c x b e =
-      e ∙ ap (λ (o : ℕ). slice_index (words (threads_part a)) o) (word_place i c)
-      ∙ holds_word thread_fields 21 wide (words (threads_part a)) (decode a).threads k.threads.holds i c no_row h b
-    where
-      word_place : (i c : ℕ) → i * 21 + 1 + c ≡ i * 21 + suc c
-      word_place i c = omega arith
-
   module _ (p : List ℕ) (z : length p ≡ 21_512) where
-    pub thread_state : (s : ℕ) (w : Wait) → words p ≡ set_state (words (threads_part a)) i s w
-        → Leaves (put_part 45_088 21_512 a p) (with_threads (slice_set (decode a).threads i (with_state s w (slice_index_or (decode a).threads i no_row))) (decode a))
-    thread_state s w q = thread_set a k p z i _ _ h refl (q ∙ state_set (words (threads_part a)) (decode a).threads k.threads.holds i h s w)
+    pub thread_state : (s : State) → words p ≡ set_state (words (threads_part a)) i s
+        → Leaves (put_part 45_088 21_512 a p) (with_threads (slice_set (decode a).threads i (with_state s (slice_index_or (decode a).threads i no_row))) (decode a))
+    thread_state s q = thread_set a k p z i _ _ h refl (q ∙ state_set (words (threads_part a)) (decode a).threads k.threads.holds i h s)
 
     pub thread_woken : (r : Results) → words p ≡ set_woken (words (threads_part a)) i r
         → Leaves (put_part 45_088 21_512 a p) (with_threads (slice_set (decode a).threads i (row (get_or (decode a).threads i no_row).id (woken r (get_or (decode a).threads i no_row).it))) (decode a))

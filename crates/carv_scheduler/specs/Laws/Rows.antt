@@ -1,5 +1,5 @@
 -- The rows of the thread table: what a change of one leaves. Assumes nothing.
-use Rattle.std.specs.Prelude.{◌≡◌, ℕ, suc, ◌+◌, ◌*◌, ◌<◌, List, [], ◌∷◌, length, get_or, slice_index, slice_index_or, slice_set, refl}
+use Rattle.std.specs.Prelude.{◌≡◌, ℕ, suc, ◌+◌, ◌*◌, ◌<◌, List, [], ◌∷◌, length, get_or, slice_index, slice_index_or, slice_set, refl, Option, Some, None, unwrap_or}
 use Rattle.std.proofs.Common.{arith, add_assoc, ap, ◌∙◌}
 use Rattle.std.proofs.Math.Numerals.{towards_numerals}
 use Rattle.std.proofs.lemmas.List.Edits.{sets}
@@ -7,15 +7,18 @@ use Rattle.carv_area.specs.Table.{Row}
 use Rattle.carv_area.specs.Rows.{Holds}
 use Rattle.carv_area.specs.Laws.Rows.{holds_word}
 use Rattle.carv_area.specs.Laws.Stored.{rows_are}
-use Rattle.carv_scheduler_spec.specs.declared.Wait.{Wait}
-use Rattle.carv_scheduler_spec.specs.declared.BudgetId.{BudgetId}
+use Rattle.carv_scheduler_spec.specs.declared.State.{State}
+use Rattle.carv_scheduler_spec.specs.declared.State.TheVariants.{Inactive, Ready}
 use Rattle.carv_scheduler_spec.specs.declared.Spaces.{Spaces}
 use Rattle.carv_scheduler_spec.specs.declared.Context.{Context}
 use Rattle.carv_scheduler_spec.specs.declared.Results.{Results}
 use Rattle.carv_scheduler_spec.specs.declared.Thread.{Thread}
+use Rattle.carv_scheduler_spec.specs.declared.Cause.TheVariants.{Destroyed}
 use Rattle.carv_scheduler_spec.specs.declared.Exit.{Exit}
-use Rattle.carv_scheduler_spec.specs.Scheduler.{fresh, inactive, ready, no_budget_id, no_wait}
-use Rattle.carv_scheduler.specs.Area.{thread_fields, thread_at, threads_in, exit_fields, exit_at, exits_in}
+use Rattle.carv_scheduler_spec.specs.Scheduler.{fresh, cause_of}
+use Rattle.carv_scheduler_spec.specs.Codes.{is_word, state_word, kind_word, number_word, id_word, space_word, cspace_word, root_word, state_from, budget_from, spaces_from}
+use Rattle.carv_scheduler_spec.proofs.Laws.Codes.{state_back, budget_back, spaces_back, cause_back}
+use Rattle.carv_scheduler.specs.Area.{thread_fields, thread_at, threads_in, exit_fields, exit_at, exits_in, state_at, budget_at, spaces_at}
 
 abbrev pub row : ℕ → Thread → Row Thread
 row i t = record { id = i; it = t }
@@ -25,14 +28,14 @@ wide r = refl
 
 -- the words l with a part of a record, or a whole record, at place i
 
-unfoldable pub set_state : List ℕ → (i state : ℕ) → Wait → List ℕ
-set_state l i state w = sets l (i * 21 + 2) (state ∷ w.kind ∷ w.number ∷ [])
+unfoldable pub set_state : List ℕ → ℕ → State → List ℕ
+set_state l i x = sets l (i * 21 + 2) (state_word x ∷ kind_word x ∷ number_word x ∷ [])
 
-unfoldable pub set_start : List ℕ → (i id state : ℕ) → Wait → BudgetId → List ℕ
-set_start l i id state w p = sets l (i * 21 + 1) (id ∷ state ∷ w.kind ∷ w.number ∷ p.is ∷ p.id ∷ [])
+unfoldable pub set_start : List ℕ → (i id : ℕ) → State → (budget : Option ℕ) → List ℕ
+set_start l i id x p = sets l (i * 21 + 1) (id ∷ state_word x ∷ kind_word x ∷ number_word x ∷ is_word p ∷ id_word p ∷ [])
 
-unfoldable pub set_spaces : List ℕ → ℕ → Spaces → List ℕ
-set_spaces l i s = sets l (i * 21 + 7) (s.is ∷ s.space ∷ s.cspace ∷ s.root ∷ [])
+unfoldable pub set_spaces : List ℕ → ℕ → Option Spaces → List ℕ
+set_spaces l i s = sets l (i * 21 + 7) (is_word s ∷ space_word s ∷ cspace_word s ∷ root_word s ∷ [])
 
 unfoldable pub set_context : List ℕ → ℕ → Context → List ℕ
 set_context l i c = sets l (i * 21 + 11) (c.rip ∷ c.rsp ∷ c.rflags ∷ c.rdi ∷ c.rsi ∷ c.cs ∷ c.ss ∷ [])
@@ -51,31 +54,46 @@ set_thread l i r = sets l (i * 21 + 1) (thread_fields r)
 
 -- the same with the record at place i awake
 abbrev pub set_woken : List ℕ → ℕ → Results → List ℕ
-set_woken l i r = set_results (set_state l i ready no_wait) i r
+set_woken l i r = set_results (set_state l i Ready) i r
 
 -- `write_start` and `write_end`
 
-pub start_set : (l l₁ l₂ l₃ l₄ : List ℕ) (i id state : ℕ) (w : Wait) (p : BudgetId) → l₁ ≡ slice_set l (i * 21 + 1) id → l₂ ≡ set_state l₁ i state w
-    → l₃ ≡ slice_set l₂ (i * 21 + 5) p.is → l₄ ≡ slice_set l₃ (i * 21 + 6) p.id → l₄ ≡ set_start l i id state w p
+pub start_set : (l l₁ l₂ l₃ l₄ : List ℕ) (i id : ℕ) (x : State) (p : Option ℕ) (f n : ℕ) → f ≡ is_word p → n ≡ unwrap_or p 0
+    → l₁ ≡ slice_set l (i * 21 + 1) id → l₂ ≡ set_state l₁ i x → l₃ ≡ slice_set l₂ (i * 21 + 5) f → l₄ ≡ slice_set l₃ (i * 21 + 6) n → l₄ ≡ set_start l i id x p
 unfolding set_start set_state
-start_set l l₁ l₂ l₃ l₄ i id state w p e₁ e₂ e₃ e₄ = rw (e₄, e₃, e₂, e₁) (simp towards_numerals)
+start_set l l₁ l₂ l₃ l₄ i id x p f n ef en e₁ e₂ e₃ e₄ = rw (e₄, e₃, e₂, e₁, ef, en ∙ id_is p) (simp towards_numerals)
+  where
+    id_is : (p : Option ℕ) → unwrap_or p 0 ≡ id_word p
+    id_is None = refl
+    id_is (Some i) = refl
 
 pub end_set : (l l₁ l₂ : List ℕ) (i : ℕ) (r : Results) (n : ℕ) → l₁ ≡ set_results l i r → l₂ ≡ slice_set l₁ (i * 21 + 21) n → l₂ ≡ set_end l i r n
 unfolding set_end set_results
 end_set l l₁ l₂ i r n e₁ e₂ = rw (e₂, e₁) (simp towards_numerals)
 
+-- `write_spaces`: of what is not there 0 is written
+abbrev pub said_spaces : Option Spaces → Spaces
+said_spaces s = unwrap_or s (record { space = 0; cspace = 0; root = 0 })
+
+pub spaces_set : (l l₁ l₂ l₃ l₄ : List ℕ) (i : ℕ) (s : Option Spaces) (f : ℕ) (said : Spaces) → f ≡ is_word s → said ≡ said_spaces s
+    → l₁ ≡ slice_set l (i * 21 + 7) f → l₂ ≡ slice_set l₁ (i * 21 + 8) said.space → l₃ ≡ slice_set l₂ (i * 21 + 9) said.cspace → l₄ ≡ slice_set l₃ (i * 21 + 10) said.root
+    → l₄ ≡ set_spaces l i s
+unfolding set_spaces
+spaces_set l l₁ l₂ l₃ l₄ i None f said ef es e₁ e₂ e₃ e₄ = rw (e₄, e₃, e₂, e₁, ef, es) (simp towards_numerals)
+spaces_set l l₁ l₂ l₃ l₄ i (Some s) f said ef es e₁ e₂ e₃ e₄ = rw (e₄, e₃, e₂, e₁, ef, es) (simp towards_numerals)
+
 -- `write_thread`
-pub thread_set : (l l₁ l₂ l₃ l₄ : List ℕ) (i id : ℕ) (t : Thread) → l₁ ≡ set_start l i id t.state t.wait t.budget → l₂ ≡ set_spaces l₁ i t.spaces
+pub thread_set : (l l₁ l₂ l₃ l₄ : List ℕ) (i id : ℕ) (t : Thread) → l₁ ≡ set_start l i id t.state t.budget → l₂ ≡ set_spaces l₁ i t.spaces
     → l₃ ≡ set_context l₂ i t.context → l₄ ≡ set_end l₃ i t.results t.ticks → l₄ ≡ set_thread l i (row id t)
 unfolding set_start set_spaces set_context set_end set_thread
 thread_set l l₁ l₂ l₃ l₄ i id t e₁ e₂ e₃ e₄ = rw (e₄, e₃, e₂, e₁) (simp towards_numerals)
 
 -- the default of a place past the end
 abbrev pub no_row : Row Thread
-no_row = row 0 (fresh inactive no_budget_id)
+no_row = row 0 (fresh Inactive None)
 
 abbrev pub no_exit : Exit
-no_exit = record { thread = 0; cause = 0 }
+no_exit = record { thread = 0; cause = Destroyed }
 
 pub wide_exit : (e : Exit) → length (exit_fields e) ≡ 2
 wide_exit e = refl
@@ -87,13 +105,18 @@ module _ (l : List ℕ) (rows : List (Row Thread)) (h : Holds thread_fields 21 l
       let w : (j : ℕ) → j < 21 → slice_index l (i * 21 + suc j) ≡ get_or (thread_fields (slice_index_or rows i no_row)) j 0 = λ j b. holds_word thread_fields 21 wide l rows h i j no_row a b in
       let v : (x y j : ℕ) → x + y ≡ suc j → j < 21 → slice_index l (i * 21 + x + y) ≡ get_or (thread_fields (slice_index_or rows i no_row)) j 0 =
       λ x y j e b. ap (λ (o : ℕ). slice_index l o) (add_assoc (i * 21) x y ∙ ap (λ (o : ℕ). i * 21 + o) e) ∙ w j b in
+      let t : Thread = (slice_index_or rows i no_row).it in
+      let s : state_at l (i * 21 + 2) ≡ t.state =
+      (λ u. state_from (w 1 (omega arith) u) (v 2 1 2 refl (omega arith) u) (v 2 2 3 refl (omega arith) u)) ∙ state_back t.state in
+      let p : budget_at l (i * 21 + 5) ≡ t.budget = (λ u. budget_from (w 4 (omega arith) u) (v 5 1 5 refl (omega arith) u)) ∙ budget_back t.budget in
+      let q : spaces_at l (i * 21 + 7) ≡ t.spaces =
+      (λ u. spaces_from (w 6 (omega arith) u) (v 7 1 7 refl (omega arith) u) (v 7 2 8 refl (omega arith) u) (v 7 3 9 refl (omega arith) u)) ∙ spaces_back t.spaces in
       λ t. record {
         id = w 0 (omega arith) t;
         it = record {
-          state = w 1 (omega arith) t;
-          wait = record { kind = w 2 (omega arith) t; number = v 3 1 3 refl (omega arith) t };
-          budget = record { is = w 4 (omega arith) t; id = v 5 1 5 refl (omega arith) t };
-          spaces = record { is = w 6 (omega arith) t; space = v 7 1 7 refl (omega arith) t; cspace = v 7 2 8 refl (omega arith) t; root = v 7 3 9 refl (omega arith) t };
+          state = s t;
+          budget = p t;
+          spaces = q t;
           context = record {
             rip = w 10 (omega arith) t;
             rsp = v 11 1 11 refl (omega arith) t;
@@ -117,7 +140,8 @@ module _ (l : List ℕ) (log : List Exit) (h : Holds exit_fields 2 l log) where
   pub exit_at_is : (i : ℕ) → i < length log → exit_at l i ≡ slice_index_or log i no_exit
   exit_at_is i a =
       let w : (j : ℕ) → j < 2 → slice_index l (i * 2 + suc j) ≡ get_or (exit_fields (slice_index_or log i no_exit)) j 0 = λ j b. holds_word exit_fields 2 wide_exit l log h i j no_exit a b in
-      λ t. record { thread = w 0 (omega arith) t; cause = w 1 (omega arith) t }
+      let c : cause_of (slice_index l (i * 2 + 2)) ≡ (slice_index_or log i no_exit).cause = ap cause_of (w 1 (omega arith)) ∙ cause_back (slice_index_or log i no_exit).cause in
+      λ t. record { thread = w 0 (omega arith) t; cause = c t }
 
   pub exits_in_are : exits_in l ≡ log
   unfolding exits_in

@@ -15,12 +15,13 @@ use Rattle.carv_objects_spec.proofs.Laws.SoundLaws.{all_told, all_shown, rises_t
 use Rattle.carv_objects_spec.proofs.Laws.SoundLaws as registry_laws
 use Rattle.carv_objects.specs.Laws.Calls as registry_calls
 use Rattle.carv_objects.specs.Laws.SoundWalk.{Tells}
-use Rattle.carv_scheduler_spec.specs.Scheduler.{Board, cause_listed}
-use Rattle.carv_scheduler_spec.specs.Sound.{each, thread_tests, board_tests, sound}
-use Rattle.carv_scheduler.specs.Area.{registry_part, head, threads_part, queue_part, exits_part, thread_at, threads_in, exit_at, exits_in, sound_area}
+use Rattle.carv_scheduler_spec.specs.Scheduler.{Board}
+use Rattle.carv_scheduler_spec.specs.Sound.{thread_tests, board_tests, sound}
+use Rattle.carv_scheduler.specs.Area.{registry_part, head, threads_part, queue_part, exits_part, thread_at, threads_in, exit_at, exits_in, thread_listed, threads_listed, exits_listed, sound_area}
 use Rattle.carv_scheduler.specs.Laws.AreaLaws.{asked_told, asked_shown}
 use Rattle.carv_scheduler.specs.Laws.SoundWalk.{SoundThreads, SoundTables, SoundExits, SoundParts}
-use Rattle.carv_scheduler.specs.Laws.SoundThread.{tests_told, tests_shown}
+use Rattle.carv_scheduler.specs.Laws.SoundThread.{tests_told, listed_shown, tests_shown}
+use Rattle.carv_scheduler.specs.Laws.Listed.{each_out, each_in}
 use Rattle.carv_scheduler.specs.Laws.SoundRows.{every_out, every_in, length_threads}
 
 -- the board that a registry and the words of the tables say
@@ -36,14 +37,14 @@ record Found (w v u : List ℕ) (c : ℕ) : Type 0 where
   few : slice_index_or w 0 0 ≤ 128
   threads : SoundThreads w v c
   few_exits : slice_index_or u 0 0 ≤ 32
-  causes : each (λ e. cause_listed e.cause) (exits_in u) ≡ true
+  causes : exits_listed u ≡ true
 
 module _ (r : Registry) (w v u : List ℕ) (c s : ℕ) where
-  found_out : sound (board_in r w v u c s) ≡ true → Found w v u c
-  unfolding threads_in
-  found_out h =
+  found_out : threads_listed w ≡ true → exits_listed u ≡ true → sound (board_in r w v u c s) ≡ true → Found w v u c
+  unfolding threads_in threads_listed
+  found_out listed causes h =
       let b = board_in r w v u c s in
-      let (registry, (few, (rising, (threads, (dist, (queue, (here, (active, (idle_here, (idle_state, (idle_runs, (exits, (causes, z)))))))))))))
+      let (registry, (few, (rising, (threads, (dist, (queue, (here, (active, (idle_here, (idle_state, (idle_runs, (exits, z))))))))))))
       = all_told (board_tests b) h in
       record {
         few = rw (length_threads w) at (leb-true (length (threads_in w)) 128 few);
@@ -52,7 +53,8 @@ module _ (r : Registry) (w v u : List ℕ) (c s : ℕ) where
           current = record { here = here; active = active };
           idle = record { here = idle_here; state = idle_state; runs = idle_runs };
           queue = record { distinct = dist; queued = queue };
-          threads = λ k l. tests_told b _ _ (every_out (λ i t. all (thread_tests b i t)) (slice_index w 0) (thread_at w) threads k l);
+          threads = λ k l. tests_told b w k (each_out (thread_listed w) (slice_index w 0) (λ i. i) listed k l)
+              (every_out (λ i t. all (thread_tests b i t)) (slice_index w 0) (thread_at w) threads k l);
         };
         few_exits = rw (length_exits u) at (leb-true (length (exits_in u)) 32 exits);
         causes = causes;
@@ -63,7 +65,7 @@ module _ (r : Registry) (w v u : List ℕ) (c s : ℕ) where
   found_in registry F =
       let b = board_in r w v u c s in
       let T = F.threads in
-      let threads = every_in (λ i t. all (thread_tests b i t)) (slice_index w 0) (thread_at w) (λ k l. tests_shown b _ _ (T.threads k l)) in
+      let threads = every_in (λ i t. all (thread_tests b i t)) (slice_index w 0) (thread_at w) (λ k l. tests_shown b w k (T.threads k l)) in
       let few = le-leb (length (threads_in w)) 128 (rw (length_threads w) F.few) in
       let few_exits = le-leb (length (exits_in u)) 32 (rw (length_exits u) F.few_exits) in
       all_shown (board_tests b) (
@@ -78,13 +80,18 @@ module _ (r : Registry) (w v u : List ℕ) (c s : ℕ) where
                 T.queue.distinct,
                 (
                   T.queue.queued,
-                  (T.current.here, (T.current.active, (T.idle.here, (T.idle.state, (T.idle.runs, (few_exits, (F.causes, tt))))))),
+                  (T.current.here, (T.current.active, (T.idle.here, (T.idle.state, (T.idle.runs, (few_exits, tt)))))),
                 ),
               ),
             ),
           ),
         ),
       )
+
+  -- the tests that the walks make of a thread's words are also those of its codes
+  listed_in : Found w v u c → threads_listed w ≡ true
+  unfolding threads_listed
+  listed_in F = each_in (thread_listed w) (slice_index w 0) (λ i. i) (λ k l. listed_shown (board_in r w v u c s) w k (F.threads.threads k l))
 
 -- ---- question 1
 
@@ -98,7 +105,7 @@ parts_out : (a : List ℕ) → sound_area a ≡ true → ByParts a
 parts_out a h =
     let k = asked_told a h in
     let F = found_out (objects.decode (registry_part a)) (words (threads_part a)) (words (queue_part a)) (words (exits_part a))
-    (slice_index (words (head a)) 0) (slice_index (words (head a)) 1) k.sound in
+    (slice_index (words (head a)) 0) (slice_index (words (head a)) 1) k.threads_listed k.exits_listed k.sound in
     record {
       size = k.size;
       registry = k.registry;
@@ -112,13 +119,18 @@ parts_in : (a : List ℕ) → ByParts a → sound_area a ≡ true
 parts_in a k =
     let T = k.parts.tables in
     let X = k.parts.exits in
+    let F : Found (words (threads_part a)) (words (queue_part a)) (words (exits_part a)) (slice_index (words (head a)) 0)
+    = record { few = T.few; threads = T.threads; few_exits = X.few; causes = X.causes } in
     asked_shown a (record {
       size = k.size;
       registry = k.registry;
+      threads_listed = listed_in (objects.decode (registry_part a)) (words (threads_part a)) (words (queue_part a)) (words (exits_part a))
+          (slice_index (words (head a)) 0) (slice_index (words (head a)) 1) F;
+      exits_listed = X.causes;
       sound = found_in (objects.decode (registry_part a)) (words (threads_part a)) (words (queue_part a)) (words (exits_part a))
           (slice_index (words (head a)) 0) (slice_index (words (head a)) 1)
           (registry_laws.sound_shown (objects.decode (registry_part a)) (registry_calls.area_sound (registry_part a) k.registry))
-          (record { few = T.few; threads = T.threads; few_exits = X.few; causes = X.causes });
+          F;
       threads = T.rest;
       count = T.few_queue;
       queue = T.rest_queue;

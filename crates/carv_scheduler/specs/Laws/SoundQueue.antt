@@ -1,10 +1,9 @@
 -- Question 1's walk over the queue: its begin, one turn, and its end. Assumes nothing.
-use Rattle.std.specs.Prelude.{◌≡◌, ℕ, zero, suc, ◌+◌, ◌<◌, ◌≤◌, Bool, true, false, not, ◌&&◌, ◌||◌, ◌≢◌, List, ◌==◌, nat_eq, slice_index, slice_index_or, slice_set, refl}
+use Rattle.std.specs.Prelude.{◌≡◌, ℕ, zero, suc, ◌+◌, ◌*◌, ◌<◌, ◌≤◌, Bool, true, false, not, ◌&&◌, ◌||◌, ◌≢◌, List, ◌==◌, nat_eq, slice_index, slice_index_or, slice_set, refl, None}
 use Rattle.std.proofs.Common.{sym, ◌∙◌, subst, ⊎_elim, add-one, arith, length-set, get_or-set_same, get_or-set_other, eqb-true, eq-eqb, ne_eqb}
 use Rattle.std.proofs.Math.Path.{ap}
 use Rattle.std.proofs.lemmas.Bool.{false≢true}
 use Rattle.std.proofs.Math.Bool.{or-true, or-false}
-use Rattle.std.proofs.Math.Option.{none}
 use Rattle.std.proofs.lemmas.List.{length-replicate, get_or-replicate}
 use Rattle.carv_area.specs.Table.{at}
 use Rattle.carv_area.specs.Lists.{tab}
@@ -16,8 +15,9 @@ use Rattle.carv_scheduler_spec.specs.Scheduler.{idle, ready, is, thread, has}
 use Rattle.carv_scheduler_spec.specs.Sound.{member, distinct}
 use Rattle.carv_scheduler_spec.proofs.Laws.Reading.{member_join, distinct_join, distinct_first, distinct_rest}
 use Rattle.carv_scheduler.specs.Area.{threads_in}
-use Rattle.carv_scheduler.specs.Laws.SoundWalk.{id_at, it_at, key_at, Rise, Fits, Fit, queued, bit, SoundQueue, Walk}
-use Rattle.carv_scheduler.specs.Laws.SoundRows.{tab_snoc, each_out, each_in, one_more, key_is, Stands, stands_has, stands_thread, missing_has}
+use Rattle.carv_scheduler.specs.Laws.SoundWalk.{id_at, key_at, Rise, Fits, Fit, queued, bit, SoundQueue, Walk}
+use Rattle.carv_scheduler.specs.Laws.Listed.{each_out, each_in, ready_at}
+use Rattle.carv_scheduler.specs.Laws.SoundRows.{tab_snoc, one_more, key_is, Stands, stands_has, stands_thread, missing_has}
 
 -- ---- ids of a list made of a function
 
@@ -71,14 +71,14 @@ module _ {w v : List ℕ} {j x : ℕ} (e : x ≡ slice_index v (j + 1)) (l : j <
   rest : SoundQueue w v → (has (threads_in w) x && is ready (thread (threads_in w) x)) ≡ true
   rest S = second (not (x == idle)) (has (threads_in w) x && is ready (thread (threads_in w) x)) (asked j x e l S)
 
-  pub off_missing : at (threads_in w) x ≡ none → SoundQueue w v → ⊥
+  pub off_missing : at (threads_in w) x ≡ None → SoundQueue w v → ⊥
   off_missing q S = missing_has w x q (first (has (threads_in w) x) (is ready (thread (threads_in w) x)) (rest S))
 
   module _ {i : ℕ} (s : Stands w x i) where
-    pub off_state : ((it_at w i).state ≢ 2) → SoundQueue w v → ⊥
+    pub off_state : (slice_index w (i * 21 + 2) ≢ 2) → SoundQueue w v → ⊥
     off_state ne S =
         let r : is ready (thread (threads_in w) x) ≡ true = second (has (threads_in w) x) (is ready (thread (threads_in w) x)) (rest S) in
-        ne (eqb-true (it_at w i).state 2 (rw (stands_thread s) at r))
+        ne (eqb-true (slice_index w (i * 21 + 2)) 2 (sym (ap (is ready) (stands_thread s) ∙ ready_at w i) ∙ r))
 
     module _ {ms : List ℕ} (W : Walk w v j ms) where
       -- the id is the one at place i
@@ -92,9 +92,9 @@ module _ {w v : List ℕ} {j x : ℕ} (e : x ≡ slice_index v (j + 1)) (l : j <
           let m' : member (id_at w i) (tab j (key_at v)) ≡ false = rw same_id at m in
           ne (W.marks i s.inside ∙ ap bit m')
 
-      module _ (o : Rise w (slice_index w 0)) (few : slice_index_or w 0 0 ≤ 128) (busy : x ≡ idle → ⊥) (state : (it_at w i).state ≡ 2) (free : slice_index_or ms i 0 ≡ 0) where
+      module _ (o : Rise w (slice_index w 0)) (few : slice_index_or w 0 0 ≤ 128) (busy : x ≡ idle → ⊥) (state : slice_index w (i * 21 + 2) ≡ 2) (free : slice_index_or ms i 0 ≡ 0) where
         passes : queued w (key_at v j) ≡ true
-        passes = rw (← key_is v j, ← e, ne_eqb x idle busy, stands_has s, stands_thread s) (eq-eqb (it_at w i).state 2 state)
+        passes = rw (← key_is v j, ← e, ne_eqb x idle busy, stands_has s, stands_thread s, ready_at w i) (eq-eqb (slice_index w (i * 21 + 2)) 2 state)
 
         new : member (key_at v j) (tab j (key_at v)) ≡ false
         new = rw same_id (bit_zero (member (id_at w i) (tab j (key_at v))) (sym (W.marks i s.inside) ∙ free))

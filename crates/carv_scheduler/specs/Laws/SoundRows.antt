@@ -1,11 +1,8 @@
 -- Rows by place and by id, for question 1: tests of a list made of a function, the order of the threads' ids, and what stands under an id. Assumes nothing.
-use Rattle.std.specs.Prelude.{◌≡◌, ℕ, zero, suc, ◌+◌, ◌-◌, ◌*◌, ◌^◌, ◌<◌, ◌≤◌, Bool, true, List, [], ◌∷◌, ◌++◌, map, length, drop, ◌≢◌, slice_index, slice_index_or}
+use Rattle.std.specs.Prelude.{◌≡◌, ℕ, zero, suc, ◌+◌, ◌-◌, ◌*◌, ◌^◌, ◌<◌, ◌≤◌, Bool, true, List, [], ◌∷◌, ◌++◌, map, length, drop, ◌≢◌, slice_index, slice_index_or, Option, Some, None}
 use Rattle.std.proofs.Math.Path.{refl, sym, ap}
 use Rattle.std.proofs.Common.{◌∙◌, subst, ⊎_elim, mul-one, arith}
 use Rattle.std.proofs.lemmas.Bool.{false≢true}
-use Rattle.std.proofs.Math.Option.{none, some}
-use Rattle.carv_area.specs.declared.Found.{Found}
-use Rattle.carv_area.specs.declared.Found.TheVariants.{At, Nothing}
 use Rattle.carv_area.specs.Table.{Row, at}
 use Rattle.carv_area.specs.Lists.{tab}
 use Rattle.carv_area.specs.Laws.Lists.{length_tab, get_or_tab, lt_or_ge}
@@ -22,7 +19,6 @@ use Rattle.carv_budget.proofs.Laws.Account.{first, second}
 use Rattle.carv_objects_spec.specs.Sound.{every}
 use Rattle.carv_scheduler_spec.specs.declared.Thread.{Thread}
 use Rattle.carv_scheduler_spec.specs.Scheduler.{or_fresh, found, thread, has}
-use Rattle.carv_scheduler_spec.specs.Sound.{each}
 use Rattle.carv_scheduler.specs.Area.{thread_at, threads_in, behind}
 use Rattle.carv_scheduler.specs.Laws.Rows.{no_row}
 use Rattle.carv_scheduler.specs.Laws.Places.{found_here, found_gone}
@@ -40,17 +36,6 @@ module _ {A : Type 0} where
   unfolding tab
   map_tab g zero f = refl
   map_tab {B} g (suc n) f = ap (λ (l : List B). g (f zero) ∷ l) (map_tab g n (λ i. f (suc i)))
-
-  pub each_out : (p : A → Bool) (n : ℕ) (f : ℕ → A) → each p (tab n f) ≡ true → (k : ℕ) → k < n → p (f k) ≡ true
-  unfolding tab
-  each_out p zero f h k l = absurd (omega arith)
-  each_out p (suc n) f h zero l = first (p (f zero)) (each p (tab n (λ i. f (suc i)))) h
-  each_out p (suc n) f h (suc k) l = each_out p n (λ i. f (suc i)) (second (p (f zero)) (each p (tab n (λ i. f (suc i)))) h) k (omega arith)
-
-  pub each_in : (p : A → Bool) (n : ℕ) (f : ℕ → A) → ((k : ℕ) → k < n → p (f k) ≡ true) → each p (tab n f) ≡ true
-  unfolding tab
-  each_in p zero f h = refl
-  each_in p (suc n) f h = rw (h zero (omega arith), each_in p n (λ i. f (suc i)) (λ k l. h (suc k) (omega arith)))
 
   pub every_out : (p : ℕ → A → Bool) (n : ℕ) (f : ℕ → Row A) → every p (tab n f) ≡ true → (k : ℕ) → k < n → p (f k).id (f k).it ≡ true
   unfolding tab
@@ -97,7 +82,6 @@ more_rise w i last id s r p q h j k a b = ⊎_elim
     (lt_or_ge k i)
 
 pub rise_keys : (w : List ℕ) → Rise w (slice_index w 0) → keys.Rising (keys 21 w)
-unfolding keys.Rising
 rise_keys w r i j a b =
     let n = length_keys 21 w in
     omega (arith, r i j a (omega arith), get_or_keys 21 w i (omega arith), get_or_keys 21 w j b)
@@ -115,7 +99,6 @@ ordered_keys w o = rw (ids_keys w) at (rising_ids (threads_in w) 0 (2 ^ 64) o)
 
 -- keys that rise, by place
 pub keys_rise : (w : List ℕ) → keys.Rising (keys 21 w) → Rise w (slice_index w 0)
-unfolding keys.Rising
 keys_rise w r j k a b =
     let n = length_keys 21 w in
     omega (arith, r j k a (omega arith), get_or_keys 21 w j (omega arith), get_or_keys 21 w k (omega arith))
@@ -156,13 +139,13 @@ ordered_keyed t e h o = keyed_of 21 t (omega arith) (omega arith) (ordered_keys 
 pub record Stands (w : List ℕ) (x i : ℕ) : Type 0 where
   pub inside : i < slice_index w 0
   pub id : id_at w i ≡ x
-  pub is : at (threads_in w) x ≡ some (it_at w i)
+  pub is : at (threads_in w) x ≡ Some (it_at w i)
 
-module _ (w : List ℕ) (x : ℕ) (p : Found) (e : p ≡ find_in (keys 21 w) x) where
+module _ (w : List ℕ) (x : ℕ) (p : Option ℕ) (e : p ≡ find_in (keys 21 w) x) where
   located_in : Located no_row (threads_in w) x p
   located_in = subst (Located no_row (threads_in w) x) (sym (e ∙ ap (λ (ks : List ℕ). find_in ks x) (sym (ids_keys w)))) (located no_row (threads_in w) x)
 
-  pub stands : (i : ℕ) → p ≡ At i → Stands w x i
+  pub stands : (i : ℕ) → p ≡ Some i → Stands w x i
   unfolding threads_in
   stands i q =
       let h = found_here (threads_in w) x p located_in i q in
@@ -171,10 +154,10 @@ module _ (w : List ℕ) (x : ℕ) (p : Found) (e : p ≡ find_in (keys 21 w) x) 
       record {
         inside = l;
         id = sym (ap (λ (r : Row Thread). r.id) g) ∙ h.same;
-        is = h.is ∙ ap (λ (r : Row Thread). some r.it) g;
+        is = h.is ∙ ap (λ (r : Row Thread). Some r.it) g;
       }
 
-  pub missing : p ≡ Nothing → at (threads_in w) x ≡ none
+  pub missing : p ≡ None → at (threads_in w) x ≡ None
   missing q = (found_gone (threads_in w) x p located_in q).is
 
 module _ {w : List ℕ} {x i : ℕ} (s : Stands w x i) where
@@ -184,5 +167,5 @@ module _ {w : List ℕ} {x i : ℕ} (s : Stands w x i) where
   pub stands_thread : thread (threads_in w) x ≡ it_at w i
   stands_thread = ap or_fresh s.is
 
-pub missing_has : (w : List ℕ) (x : ℕ) → at (threads_in w) x ≡ none → has (threads_in w) x ≢ true
+pub missing_has : (w : List ℕ) (x : ℕ) → at (threads_in w) x ≡ None → has (threads_in w) x ≢ true
 missing_has w x e h = false≢true (sym (ap found e) ∙ h)

@@ -9,7 +9,7 @@ use Rattle.carv_area.specs.Zero.{all_zero}
 use Rattle.carv_scheduler_spec.specs.declared.Thread.{Thread}
 use Rattle.carv_scheduler_spec.specs.Scheduler.{idle, inactive, ready, running, is, cause_listed, thread, has}
 use Rattle.carv_scheduler_spec.specs.Sound.{member, distinct, each, implies, same, unpaid}
-use Rattle.carv_scheduler.specs.Area.{head, threads_part, queue_part, exits_part, thread_at, threads_in, exits_in, behind}
+use Rattle.carv_scheduler.specs.Area.{head, threads_part, queue_part, exits_part, thread_at, threads_in, exits_listed, behind}
 
 -- the id and the record of the thread at place i, and the id at place j of the queue
 abbrev pub id_at : List ℕ → ℕ → ℕ
@@ -36,16 +36,12 @@ budget_fits i is b = cond (is == 0) (b == 0) (is == 1) && same (is == 0) (unpaid
 abbrev pub space_fits : (is space cspace root : ℕ) → Bool
 space_fits is s c r = cond (is == 0) (s == 0 && (c == 0 && r == 0)) (is == 1)
 
--- these are the tests of specs/Sound.antt
-pub record Tests (q : Bool) (c i : ℕ) (t : Thread) : Type 0 where
-  pub state : state_fits q c i t.state ≡ true
-  pub wait : wait_fits t.state t.wait.kind t.wait.number ≡ true
-  pub budget : budget_fits i t.budget.is t.budget.id ≡ true
-  pub space : space_fits t.spaces.is t.spaces.space t.spaces.cspace t.spaces.root ≡ true
-
--- the thread at place i is in order
-abbrev pub Fits : (w : List ℕ) (c i : ℕ) → Bool → Type 0
-Fits w c i q = Tests q c (id_at w i) (it_at w i)
+-- the words of the thread at place i are in order: carv_scheduler_spec/specs/Codes.antt and Sound.antt ask this
+pub record Fits (w : List ℕ) (c i : ℕ) (q : Bool) : Type 0 where
+  pub state : state_fits q c (id_at w i) (slice_index w (i * 21 + 2)) ≡ true
+  pub wait : wait_fits (slice_index w (i * 21 + 2)) (slice_index w (i * 21 + 3)) (slice_index w (i * 21 + 4)) ≡ true
+  pub budget : budget_fits (id_at w i) (slice_index w (i * 21 + 5)) (slice_index w (i * 21 + 6)) ≡ true
+  pub space : space_fits (slice_index w (i * 21 + 7)) (slice_index w (i * 21 + 8)) (slice_index w (i * 21 + 9)) (slice_index w (i * 21 + 10)) ≡ true
 
 -- the first n threads are, where a mark, 1, says which are in the queue
 abbrev pub Fit : (w : List ℕ) (c n : ℕ) → List ℕ → Type 0
@@ -128,7 +124,7 @@ Listed u k = cause_listed (slice_index u (k * 2 + 2)) ≡ true
 pub record SoundExits (u : List ℕ) : Type 0 where
   pub few : slice_index_or u 0 0 ≤ 32
   pub rest : all_zero (behind 2 u) ≡ true
-  pub causes : each (λ e. cause_listed e.cause) (exits_in u) ≡ true
+  pub causes : exits_listed u ≡ true
 
 -- what is asked of the parts of the bytes a behind the registry
 pub record SoundParts (a : List ℕ) : Type 0 where

@@ -1,16 +1,14 @@
 -- `tick` in the area: the current thread's run tick and its charge, and then the waking. Assumes nothing.
-use Rattle.std.specs.Prelude.{◌≡◌, ℕ, ◌*◌, ◌<◌, ◌≤◌, Bool, true, false, cond, List, [], ◌∷◌, set, ◌==◌, ◌≢◌, slice_index_or, slice_set, refl}
-use Rattle.std.proofs.Common.{sym, ◌∙◌, eqb-true, eq-eqb, ne_eqb, le-leb}
+use Rattle.std.specs.Prelude.{◌≡◌, ℕ, ◌*◌, ◌<◌, ◌≤◌, Bool, true, false, cond, List, [], ◌∷◌, set, ◌==◌, get_or, slice_index_or, slice_set, refl, None, Ok, Option, Some}
+use Rattle.std.proofs.Common.{sym, ◌∙◌, eqb-true, le-leb}
 use Rattle.std.proofs.Math.Path.{ap}
 use Rattle.std.proofs.lemmas.Bool.{false≢true, lt-leb}
-use Rattle.std.proofs.Math.Option.{none}
 use Rattle.carv_area.specs.Table.{Row, alter, pick}
 use Rattle.carv_area.specs.Lookup.{Here, Gone}
 use Rattle.carv_objects_spec.specs.Reply.{refuse, accept}
 use Rattle.carv_objects_spec.specs.Registry.{Registry, charge_most}
-use Rattle.carv_scheduler_spec.specs.declared.BudgetId.{BudgetId}
 use Rattle.carv_scheduler_spec.specs.declared.Thread.{Thread}
-use Rattle.carv_scheduler.specs.declared.Answer.TheVariants.{Done}
+use Rattle.carv_scheduler.specs.Answer.{nothing}
 use Rattle.carv_scheduler_spec.specs.Scheduler.{Board, tick_ns, is_due, thread, has, ticked, with_registry, with_threads, charge_tick, wake_all, tick}
 use Rattle.carv_scheduler_spec.proofs.Laws.SoundFacts.{Sound}
 use Rattle.carv_scheduler_spec.proofs.Laws.Steps.{registry_kept, charge_tick_kept, ticked_kept}
@@ -43,17 +41,17 @@ module _ (n : ℕ) (b : Board) where
   pub tick_late : 18_446_744_073_709 < n → tick n b ≡ refuse 3 b
   tick_late h = rw (lt-leb n 18_446_744_073_709 h)
 
-  pub tick_done : n ≤ 18_446_744_073_709 → tick n b ≡ accept none (wake_all (pick (is_due n) (accounted (n * tick_ns) b).threads) (accounted (n * tick_ns) b))
+  pub tick_done : n ≤ 18_446_744_073_709 → tick n b ≡ accept None (wake_all (pick (is_due n) (accounted (n * tick_ns) b).threads) (accounted (n * tick_ns) b))
   unfolding accounted
   tick_done h = rw (le-leb n 18_446_744_073_709 h, picked_ticked n b.current b.threads)
 
 -- the charge, with and without a budget
-module _ (time : ℕ) (p : BudgetId) (r : Registry) where
-  charge_none : p.is ≡ 0 → r ≡ charge_tick time p r
-  charge_none e = rw (eq-eqb p.is 0 e)
+module _ (time : ℕ) (p : Option ℕ) (r : Registry) where
+  charge_none : p ≡ None → r ≡ charge_tick time p r
+  charge_none e = ap (λ (q : Option ℕ). charge_tick time q r) (sym e)
 
-  charge_some : (p.is ≢ 0) → charge_most p.id tick_ns time r ≡ charge_tick time p r
-  charge_some e = rw (ne_eqb p.is 0 e)
+  charge_some : (i : ℕ) → p ≡ Some i → charge_most i tick_ns time r ≡ charge_tick time p r
+  charge_some i e = ap (λ (q : Option ℕ). charge_tick time q r) (sym e)
 
 -- the current thread, x, stands at place i
 module _ (time : ℕ) (b : Board) (x i : ℕ) (ex : x ≡ b.current) (h : Here no_row b.threads x i) where
@@ -65,24 +63,20 @@ module _ (time : ℕ) (b : Board) (x i : ℕ) (ex : x ≡ b.current) (h : Here n
   payer_is : (slice_index_or b.threads i no_row).it.budget ≡ (thread b.threads b.current).budget
   payer_is = sym (ap (λ (y : ℕ). (thread b.threads y).budget) (sym ex) ∙ ap (λ (t : Thread). t.budget) (here_thread b.threads x i h))
 
-  free_is : (slice_index_or b.threads i no_row).it.budget.is ≡ 0
+  free_is : (slice_index_or b.threads i no_row).it.budget ≡ None
       → area.with_threads (slice_set b.threads i (row (slice_index_or b.threads i no_row).id (ticked (slice_index_or b.threads i no_row).it))) b ≡ accounted time b
   unfolding accounted
   free_is e =
-      let z : (thread b.threads b.current).budget.is ≡ 0 = ap (λ (p : BudgetId). p.is) (sym payer_is) ∙ e in
       ap (λ (m : List (Row Thread)). area.with_threads m b) threads_ticked
-      ∙ ap (λ (r : Registry). with_registry r (with_threads (alter b.current ticked b.threads) b.queue b)) (charge_none time (thread b.threads b.current).budget b.registry z)
+      ∙ ap (λ (r : Registry). with_registry r (with_threads (alter b.current ticked b.threads) b.queue b)) (charge_none time (thread b.threads b.current).budget b.registry (sym payer_is ∙ e))
 
-  paid_is : ((slice_index_or b.threads i no_row).it.budget.is ≢ 0)
-      → with_registry (charge_most (slice_index_or b.threads i no_row).it.budget.id tick_ns time b.registry)
+  paid_is : (y : ℕ) → (slice_index_or b.threads i no_row).it.budget ≡ Some y
+      → with_registry (charge_most y tick_ns time b.registry)
       (area.with_threads (slice_set b.threads i (row (slice_index_or b.threads i no_row).id (ticked (slice_index_or b.threads i no_row).it))) b) ≡ accounted time b
   unfolding accounted
-  paid_is e =
-      let P = (thread b.threads b.current).budget in
-      let z : P.is ≡ 0 → ⊥ = λ q. e (ap (λ (p : BudgetId). p.is) payer_is ∙ q) in
-      ap (λ (p : BudgetId). with_registry (charge_most p.id tick_ns time b.registry) (area.with_threads (slice_set b.threads i (row (slice_index_or b.threads i no_row).id (ticked (slice_index_or b.threads i no_row).it))) b)) payer_is
-      ∙ ap (λ (m : List (Row Thread)). with_registry (charge_most P.id tick_ns time b.registry) (area.with_threads m b)) threads_ticked
-      ∙ ap (λ (r : Registry). with_registry r (with_threads (alter b.current ticked b.threads) b.queue b)) (charge_some time P b.registry z)
+  paid_is y e =
+      ap (λ (m : List (Row Thread)). with_registry (charge_most y tick_ns time b.registry) (area.with_threads m b)) threads_ticked
+      ∙ ap (λ (r : Registry). with_registry r (with_threads (alter b.current ticked b.threads) b.queue b)) (charge_some time (thread b.threads b.current).budget b.registry y (sym payer_is ∙ e))
 
 pub accounted_kept : (time : ℕ) (b : Board) → Sound b → Sound (accounted time b)
 unfolding accounted
@@ -96,27 +90,23 @@ module _ (time : ℕ) (a : List ℕ) (s : sound_area a ≡ true) (x : ℕ) (ex :
   pub account_gone : Gone (decode a).threads x → Is a (accounted time (decode a))
   account_gone g = absurd (false≢true (sym (gone_has (decode a).threads x g) ∙ ap (has (decode a).threads) ex ∙ (area_sound a s).current_here))
 
-  module _ (i : ℕ) (h : Here no_row (decode a).threads x i) (p : ℕ) (ep : p ≡ (slice_index_or (decode a).threads i no_row).it.budget.is)
+  module _ (i : ℕ) (h : Here no_row (decode a).threads x i) (p : Option ℕ) (ep : p ≡ (get_or (decode a).threads i no_row).it.budget)
       (a₁ : List ℕ) (l : Leaves a₁ (area.with_threads (slice_set (decode a).threads i (row (slice_index_or (decode a).threads i no_row).id (ticked (slice_index_or (decode a).threads i no_row).it))) (decode a))) where
-    pub account_free : p ≡ 0 → Is a₁ (accounted time (decode a))
+    pub account_free : p ≡ None → Is a₁ (accounted time (decode a))
     account_free z =
         is_area a₁ (accounted time (decode a)) (leaves_as a₁ _ _ (free_is time (decode a) x i ex h (sym ep ∙ z)) l) (accounted_kept time (decode a) (area_sound a s))
 
-    pub account_paid : (p ≢ 0) → (y : ℕ) → y ≡ (slice_index_or (decode a).threads i no_row).it.budget.id
+    pub account_paid : (y : ℕ) → p ≡ Some y
         → (a₂ : List ℕ) → Leaves a₂ (with_registry (charge_most y tick_ns time (decode a₁).registry) (decode a₁)) → Is a₂ (accounted time (decode a))
-    account_paid ne y ey a₂ m =
+    account_paid y z a₂ m =
         is_area a₂ (accounted time (decode a))
-        (leaves_as a₂ _ _
-        (ap (λ (b : Board). with_registry (charge_most y tick_ns time b.registry) b) l.is
-        ∙ ap (λ (z : ℕ). with_registry (charge_most z tick_ns time (decode a).registry)
-        (area.with_threads (slice_set (decode a).threads i (row (slice_index_or (decode a).threads i no_row).id (ticked (slice_index_or (decode a).threads i no_row).it))) (decode a))) ey
-        ∙ paid_is time (decode a) x i ex h (λ q. ne (ep ∙ q))) m)
+        (leaves_as a₂ _ _ (ap (λ (b : Board). with_registry (charge_most y tick_ns time b.registry) b) l.is ∙ paid_is time (decode a) x i ex h y (sym ep ∙ z)) m)
         (accounted_kept time (decode a) (area_sound a s))
 
 -- `tick`
 pub ticks : (n : ℕ) (a : List ℕ) (s : sound_area a ≡ true) → n ≤ 18_446_744_073_709 → (a₁ a₂ : List ℕ) → Is a₁ (accounted (n * tick_ns) (decode a))
-    → Is a₂ (wake_all (pick (is_due n) (decode a₁).threads) (decode a₁)) → Serves (tick n) a Done a₂
+    → Is a₂ (wake_all (pick (is_due n) (decode a₁).threads) (decode a₁)) → Serves (tick n) nothing a (Ok tt) a₂
 ticks n a s h a₁ a₂ k m =
-    answered (tick n) a s _ (tick_done n (decode a) h) Done refl refl a₂
+    answered (tick n) a s _ (tick_done n (decode a) h) (Ok tt) refl refl a₂
     (record { formed = area_formed a₂ m.sound; is = m.same ∙ ap (λ (b : Board). wake_all (pick (is_due n) b.threads) b) k.same })
     (tick_kept n (decode a) (area_sound a s))

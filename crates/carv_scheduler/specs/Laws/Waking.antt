@@ -1,20 +1,22 @@
 -- `wake` in the area, and the waking of the sleepers that are due, by places. Assumes nothing.
-use Rattle.std.specs.Prelude.{◌≡◌, ℕ, suc, ◌+◌, ◌^◌, ◌<◌, ◌≤◌, Bool, true, false, cond, List, [], ◌∷◌, ◌++◌, length, drop, set, ◌≢◌, slice_index_or, slice_set, refl}
-use Rattle.std.proofs.Common.{add-one, arith, ◌∙◌, subst, drop_of_length-le, drop-cons, eq-eqb, ne_eqb, le-leb}
+use Rattle.std.specs.Prelude.{◌≡◌, ℕ, suc, ◌+◌, ◌^◌, ◌<◌, ◌≤◌, Bool, true, false, cond, List, [], ◌∷◌, ◌++◌, length, drop, set, slice_index_or, slice_set, refl, None, Result, Err}
+use Rattle.std.proofs.Common.{add-one, arith, ◌∙◌, subst, drop_of_length-le, drop-cons}
 use Rattle.std.proofs.Math.Path.{sym, ap}
-use Rattle.std.proofs.Math.Option.{none}
 use Rattle.std.proofs.Math.ListN.{length-set}
 use Rattle.std.proofs.Math.Seq.{drop-set-lt}
-use Rattle.std.proofs.lemmas.Bool.{lt-leb}
 use Rattle.carv_area.specs.Table.{Row, alter, pick, Rising}
 use Rattle.carv_area.specs.Laws.Table.{test}
 use Rattle.carv_area.specs.Lookup.{Here, Gone}
-use Rattle.carv_budget.proofs.Laws.Account.{first}
+use Rattle.std.proofs.lemmas.Bool.{false≢true}
 use Rattle.carv_objects_spec.specs.Reply.{refuse, accept}
+use Rattle.carv_scheduler_spec.specs.declared.State.{State}
+use Rattle.carv_scheduler_spec.specs.declared.State.TheVariants.{Inactive, Ready, Running, Blocked, Dead}
 use Rattle.carv_scheduler_spec.specs.declared.Results.{Results}
 use Rattle.carv_scheduler_spec.specs.declared.Thread.{Thread}
-use Rattle.carv_scheduler.specs.declared.Answer.TheVariants.{Done, Refused}
-use Rattle.carv_scheduler_spec.specs.Scheduler.{Board, BoardReply, ready, blocked, is, is_due, results, thread, has, woken, with_threads, join, wake, wake_all}
+use Rattle.carv_objects.specs.declared.refusal.Refusal.{Refusal}
+use Rattle.carv_objects.specs.declared.refusal.Refusal.TheVariants.{Missing}
+use Rattle.carv_scheduler.specs.Answer.{nothing}
+use Rattle.carv_scheduler_spec.specs.Scheduler.{Board, BoardReply, ready, blocked, is, wait_in, due, is_due, results, thread, has, woken, with_threads, join, wake, wake_all}
 use Rattle.carv_scheduler_spec.proofs.Laws.Steps.{other_state, apart}
 use Rattle.carv_scheduler_spec.proofs.Laws.Kept.{wake_kept}
 use Rattle.carv_scheduler.specs.Area.{decode, sound_area, Is, Serves}
@@ -23,7 +25,7 @@ use Rattle.carv_scheduler.specs.Laws.Places.{here_at, here_has, here_thread, gon
 use Rattle.carv_scheduler.specs.Laws.Formed.{Leaves, leaves_as}
 use Rattle.carv_scheduler.specs.Laws.AreaSteps as area
 use Rattle.carv_scheduler.specs.Laws.AreaLaws.{area_sound, is_area}
-use Rattle.carv_scheduler.specs.Laws.Calls.{refused}
+use Rattle.carv_scheduler.specs.Laws.Calls.{refused_by}
 use Rattle.carv_scheduler.specs.Laws.Room.{queue_room}
 
 -- `wake`, question by question
@@ -32,10 +34,7 @@ module _ (i : ℕ) (r : Results) (b : Board) where
   wake_missing h = rw h
 
   module _ (h : has b.threads i ≡ true) where
-    pub wake_state : is blocked (thread b.threads i) ≡ false → wake i r b ≡ refuse 8 b
-    wake_state s = rw (h, s)
-
-    pub wake_done : is blocked (thread b.threads i) ≡ true → wake i r b ≡ accept none (with_threads (alter i (woken r) b.threads) (join b.queue i) b)
+    pub wake_done : is blocked (thread b.threads i) ≡ true → wake i r b ≡ accept None (with_threads (alter i (woken r) b.threads) (join b.queue i) b)
     wake_done s = rw (h, s)
 
 -- the thread x stands at place i, and is Blocked: what the two writes leave
@@ -57,7 +56,7 @@ module _ (a : List ℕ) (s : sound_area a ≡ true) (x i : ℕ) (h : Here no_row
       let o = area_sound a s in
       let b : is blocked (thread (decode a).threads x) ≡ true = ap (is blocked) (here_thread (decode a).threads x i h) ∙ w in
       subst (λ (q : List ℕ). length q < 127) (sym (ap (λ (c : Board). c.queue) l.is))
-      (queue_room (decode a) o x (here_has (decode a).threads x i h) (other_state blocked ready (thread (decode a).threads x) b refl) (apart (decode a) o x blocked b refl refl))
+      (queue_room (decode a) o x (here_has (decode a).threads x i h) (other_state blocked ready (thread (decode a).threads x) b (λ _. refl)) (apart (decode a) o x blocked b (λ _. refl) (λ _. refl)))
 
   pub wakes : (a₂ : List ℕ) → Leaves a₂ (area.with_queue ((decode a₁).queue ++ (x ∷ [])) (decode a₁)) → Is a₂ (wake x r (decode a)).after
   wakes a₂ m =
@@ -65,25 +64,10 @@ module _ (a : List ℕ) (s : sound_area a ≡ true) (x i : ℕ) (h : Here no_row
       (leaves_as a₂ _ _ (ap (λ (c : Board). area.with_queue (c.queue ++ (x ∷ [])) c) l.is ∙ woken_is (decode a) x i h r w) m)
       (wake_kept x r (decode a) (area_sound a s))
 
--- a state that was read
-pub here_blocked : (m : List (Row Thread)) (i k : ℕ) → k ≡ (slice_index_or m i no_row).it.state → k ≡ 4 → is blocked (slice_index_or m i no_row).it ≡ true
-here_blocked m i k e h = eq-eqb (slice_index_or m i no_row).it.state 4 (sym e ∙ h)
-
 -- `wake`
 module _ (a : List ℕ) (s : sound_area a ≡ true) (x : ℕ) (r : Results) where
-  pub wake_gone : Gone (decode a).threads x → Serves (wake x r) a (Refused 7) a
-  wake_gone g = refused (wake x r) a s 7 (wake_missing x r (decode a) (gone_has (decode a).threads x g))
-
-  module _ (i : ℕ) (h : Here no_row (decode a).threads x i) where
-    pub wake_other : (k : ℕ) → k ≡ (slice_index_or (decode a).threads i no_row).it.state → (k ≢ 4) → Serves (wake x r) a (Refused 8) a
-    wake_other k e n =
-        refused (wake x r) a s 8 (wake_state x r (decode a) (here_has (decode a).threads x i h)
-        (ap (is blocked) (here_thread (decode a).threads x i h) ∙ ne_eqb (slice_index_or (decode a).threads i no_row).it.state 4 (λ q. n (e ∙ q))))
-
-    pub wake_serves : is blocked (slice_index_or (decode a).threads i no_row).it ≡ true → (a₁ : List ℕ) → Is a₁ (wake x r (decode a)).after → Serves (wake x r) a Done a₁
-    wake_serves w a₁ k =
-        let z = wake_done x r (decode a) (here_has (decode a).threads x i h) (ap (is blocked) (here_thread (decode a).threads x i h) ∙ w) in
-        record { number = sym (ap (λ (y : BoardReply). y.number) z); value = sym (ap (λ (y : BoardReply). y.value) z); area = k }
+  pub wake_gone : Gone (decode a).threads x → (q : Result (Unit {0}) Refusal) → q ≡ Err Missing → Serves (wake x r) nothing a q a
+  wake_gone g = refused_by (wake x r) a s Missing (wake_missing x r (decode a) (gone_has (decode a).threads x g))
 
 -- the thread at place i wakes if it is due at tick n
 unfoldable pub wake_place : (n i : ℕ) → Board → Board
@@ -95,23 +79,14 @@ wake_from n i b = wake_all (pick (is_due n) (drop i b.threads)) b
 
 -- a due thread is Blocked
 pub due_blocked : (n : ℕ) (t : Thread) → is_due n t ≡ true → is blocked t ≡ true
-due_blocked n t d = first (is blocked t) _ d
-
--- `is_due`: the words that were read
-module _ (n : ℕ) (t : Thread) (k : ℕ) (ek : k ≡ t.state) where
-  pub not_blocked : (k ≢ 4) → false ≡ is_due n t
-  not_blocked h = rw (← ek, ne_eqb k 4 h)
-
-  module _ (h : k ≡ 4) (w : ℕ) (ew : w ≡ t.wait.kind) where
-    pub not_asleep : (w ≢ 5) → false ≡ is_due n t
-    not_asleep v = rw (← ek, eq-eqb k 4 h, ← ew, ne_eqb w 5 v)
-
-    module _ (v : w ≡ 5) (d : ℕ) (ed : d ≡ t.wait.number) where
-      pub not_yet : n < d → false ≡ is_due n t
-      not_yet l = rw (← ek, eq-eqb k 4 h, ← ew, eq-eqb w 5 v, ← ed, lt-leb d n l)
-
-      pub due_now : d ≤ n → true ≡ is_due n t
-      due_now l = rw (← ek, eq-eqb k 4 h, ← ew, eq-eqb w 5 v, ← ed, le-leb d n l)
+due_blocked n t d = go t.state d
+  where
+    go : (x : State) → due n (wait_in x) ≡ true → blocked x ≡ true
+    go Inactive e = absurd (false≢true e)
+    go Ready e = absurd (false≢true e)
+    go Running e = absurd (false≢true e)
+    go (Blocked w) e = refl
+    go Dead e = absurd (false≢true e)
 
 -- one turn
 module _ (n i : ℕ) (b : Board) (u : Rising 0 (2 ^ 64) b.threads) (h : i < length b.threads) where

@@ -1,7 +1,6 @@
 -- A refused call leaves what specs/Demand1.antt says, and no call on a board answers 1 or 15. Assumes nothing.
-use Rattle.std.specs.Prelude.{◌≡◌, refl, false, not, ℕ, eqb, ltb, length}
+use Rattle.std.specs.Prelude.{◌≡◌, refl, false, not, ℕ, eqb, ltb, length, Option, None}
 use Rattle.std.proofs.Common.{sym, ap, ◌∙◌}
-use Rattle.std.proofs.Math.Option.{Option, none}
 use Rattle.std.proofs.lemmas.Bool.{eqb-false}
 use Rattle.carv_objects_spec.specs.Registry.{Registry}
 use Rattle.carv_objects_spec.proofs.Laws.Demand1 as objects
@@ -18,7 +17,7 @@ pub record Leaves (c : Call) (b : Board) : Type 0 where
   pub not_one : (run c b).number ≡ 1 → ⊥
   pub not_15 : (run c b).number ≡ 15 → ⊥
 
-kept : (c : Call) (b : Board) → ((n : ℕ) → renewal_left c n b ≡ none) → Keeps b (run c b) → Leaves c b
+kept : (c : Call) (b : Board) → ((n : ℕ) → renewal_left c n b ≡ None) → Keeps b (run c b) → Leaves c b
 kept c b h k = record { left = λ q. k.left q ∙ ap (λ (o : Option (ℕ × ℕ)). with_renewal o b) (sym (h (run c b).number)); not_one = k.not_one; not_15 = k.not_15 }
 
 pub leaves : (c : Call) (b : Board) → Leaves c b
@@ -45,7 +44,7 @@ leaves read_switches b = kept read_switches b (λ n. refl) (accepted b _ refl)
 leaves (exit_of i) b = kept (exit_of i) b (λ n. refl) (accepted b _ refl)
 
 -- only a refusal with 12 leaves a renewal
-pub only_12_renews : (c : Call) (n : ℕ) (b : Board) → eqb n 12 ≡ false → renewal_left c n b ≡ none
+pub only_12_renews : (c : Call) (n : ℕ) (b : Board) → eqb n 12 ≡ false → renewal_left c n b ≡ None
 only_12_renews (on_objects c) n b h = objects.only_12_renews c n b.registry h
 only_12_renews (create_user_thread i budget stack) n b h = refl
 only_12_renews (start i space cspace root context) n b h = refl
@@ -61,7 +60,7 @@ only_12_renews read_switches n b h = refl
 only_12_renews (exit_of i) n b h = refl
 
 -- so question 1 leaves none
-pub one_renews_not : (c : Call) (b : Board) → renewal_left c 1 b ≡ none
+pub one_renews_not : (c : Call) (b : Board) → renewal_left c 1 b ≡ None
 one_renews_not c b = only_12_renews c 1 b refl
 
 -- a call that is refused with another number leaves the board as it was

@@ -1,8 +1,7 @@
 -- Demand 3 on the definitions (specs/Demand3.antt says it) is proved: the book follows the board, and its search finds the first of the queue that has time left. Assumes nothing.
-use Rattle.std.specs.Prelude.{◌≡◌, refl, Bool, true, false, cond, ◌&&◌, List, [], ◌∷◌, ◌++◌, ℕ, ◌-◌, ◌*◌, ◌%◌, ◌≤◌, ◌<◌, eqb, ltb, leb}
+use Rattle.std.specs.Prelude.{◌≡◌, refl, Bool, true, false, cond, ◌&&◌, List, [], ◌∷◌, ◌++◌, ℕ, ◌-◌, ◌*◌, ◌%◌, ◌≤◌, ◌<◌, eqb, ltb, leb, Option, Some, None}
 use Rattle.std.proofs.Common.{sym, ◌∙◌, ap, arith, mod-lt, eqb-true, eq-eqb, ne_eqb}
 use Rattle.std.proofs.lemmas.Bool.{false≢true, eqb-false, lt-leb}
-use Rattle.std.proofs.Math.Option.{Option, none, some}
 use Rattle.carv_area.specs.Laws.Table
 use Rattle.carv_area.specs.Table.{Row, at}
 use Rattle.carv_area.specs.Laws.Table.{test}
@@ -39,12 +38,12 @@ renew_twice : (t : ℕ) (b : Budget) → cpu_left (objects.renew t (objects.rene
 renew_twice t b = rw (not_due t b)
 
 module _ (o : objects.Book) (e : ℕ) (f : Budget → Budget) (h : is_live o e ≡ true) where
-  there : at o.budgets e ≡ some (budget_of o e)
+  there : at o.budgets e ≡ Some (budget_of o e)
   there = go (at o.budgets e) refl
     where
-      go : (x : Option Budget) → at o.budgets e ≡ x → at o.budgets e ≡ some (budget_of o e)
-      go none q = absurd (false≢true (sym (ap objects.is_some q) ∙ h))
-      go (some b) q = q ∙ sym (ap (λ (x : Option Budget). some (objects.or_no_budget x)) q)
+      go : (x : Option Budget) → at o.budgets e ≡ x → at o.budgets e ≡ Some (budget_of o e)
+      go None q = absurd (false≢true (sym (ap objects.is_some q) ∙ h))
+      go (Some b) q = q ∙ sym (ap (λ (x : Option Budget). Some (objects.or_no_budget x)) q)
 
   live_after : (c : ℕ) → is_live (on_budget e f o) c ≡ is_live o c
   live_after c = test (eqb e c)
@@ -57,15 +56,15 @@ module _ (o : objects.Book) (e : ℕ) (f : Budget → Budget) (h : is_live o e �
       (λ a. rw a (ap objects.or_no_budget (Table.at_alter_other o.budgets e c f (eqb-false e c a))))
 
 -- the test of a thread with a budget, said of that budget alone
-pub time_direct : (t c : ℕ) (o : objects.Book) → book.has_time (some c) (book.renew_for t (some c) o) ≡ (is_live o c && ltb 0 (cpu_left (objects.renew t (budget_of o c))))
+pub time_direct : (t c : ℕ) (o : objects.Book) → book.has_time (Some c) (book.renew_for t (Some c) o) ≡ (is_live o c && ltb 0 (cpu_left (objects.renew t (budget_of o c))))
 time_direct t c o = test (is_live o c)
     (λ a. rw (a, live_after o c (objects.renew t) a c, a, budget_after o c (objects.renew t) a c, eq-eqb c c refl))
     (λ a. rw (a, a))
 
 renewed_alike : (t : ℕ) (w : Option ℕ) (c : ℕ) (o : objects.Book)
     → (is_live (book.renew_for t w o) c ≡ is_live o c) × (cpu_left (objects.renew t (budget_of (book.renew_for t w o) c)) ≡ cpu_left (objects.renew t (budget_of o c)))
-renewed_alike t none c o = (refl, refl)
-renewed_alike t (some e) c o = test (is_live o e)
+renewed_alike t None c o = (refl, refl)
+renewed_alike t (Some e) c o = test (is_live o e)
     (λ a. rw a (
       live_after o e (objects.renew t) a c,
       rw (budget_after o e (objects.renew t) a c) (test (eqb e c)
@@ -75,8 +74,8 @@ renewed_alike t (some e) c o = test (is_live o e)
     (λ a. rw a (refl, refl))
 
 time_alike : (t : ℕ) (v w : Option ℕ) (o : objects.Book) → book.has_time v (book.renew_for t v (book.renew_for t w o)) ≡ book.has_time v (book.renew_for t v o)
-time_alike t none w o = refl
-time_alike t (some c) w o =
+time_alike t None w o = refl
+time_alike t (Some c) w o =
     let (x, y) = renewed_alike t w c o in
     time_direct t c (book.renew_for t w o) ∙ rw (x, y) (sym (time_direct t c o))
 
@@ -135,14 +134,14 @@ module _ (old next : ℕ) (root : Option ℕ) where
   abbrev answer : scheduler.Value
   answer = cond (eqb next old) no_switch (switch old next root)
 
-  answer_stays : next ≡ old → some answer ≡ some no_switch
+  answer_stays : next ≡ old → Some answer ≡ Some no_switch
   answer_stays q = rw (eq-eqb next old q)
 
-  answer_stayed : some answer ≡ some no_switch → next ≡ old
+  answer_stayed : Some answer ≡ Some no_switch → next ≡ old
   answer_stayed h = test (eqb next old) (λ a. eqb-true next old a)
-      (λ a. let q : some (switch old next root) ≡ some no_switch = rw a at h in absurd (let z : ◌≡◌ {A = ℕ} 0 1 = cc in omega arith))
+      (λ a. let q : Some (switch old next root) ≡ Some no_switch = rw a at h in absurd (let z : ◌≡◌ {A = ℕ} 0 1 = cc in omega arith))
 
-  answer_switches : (next ≡ old → ⊥) → some answer ≡ some (switch old next root)
+  answer_switches : (next ≡ old → ⊥) → Some answer ≡ Some (switch old next root)
   answer_switches d = rw (ne_eqb next old d)
 
 -- what an accepted planning leaves and answers
@@ -157,7 +156,7 @@ module _ (n : ℕ) (b : Board) (k : Book) (s : Sound b) (F : FollowsBoard b k) w
   choice = scheduler.choose time back.threads back.queue back.registry
 
   abbrev accepted : BoardReply
-  accepted = record { number = 0; value = some (scheduler.switch_value b.current choice back); after = scheduler.switch_to choice back }
+  accepted = record { number = 0; value = Some (scheduler.switch_value b.current choice back); after = scheduler.switch_to choice back }
 
   back_sound : Sound back
   back_sound = put_back_kept b s

@@ -1,11 +1,12 @@
 -- Document 01's "On the record edges" on the whole board: one list, `Edges`, a field for each sentence in 01's order, which the definitions satisfy together. All
 -- that are marked (m) come first, then the two that are not, then cases of plannings and kills that 01's list does not reach. Assumes nothing.
-use Rattle.std.specs.Prelude.{◌≡◌, refl, true, false, List, [], ◌∷◌, ℕ, zero, suc, ◌+◌, length}
-use Rattle.std.proofs.Math.Option.{Option, none, some}
+use Rattle.std.specs.Prelude.{◌≡◌, refl, true, false, List, [], ◌∷◌, ℕ, zero, suc, ◌+◌, length, Option, Some, None}
 use Rattle.carv_budget.specs.declared.Account.{Account}
 use Rattle.carv_budget.specs.Account.{due, renew}
 use Rattle.carv_objects_spec.specs.Reply.{refuse, accept, id, renewed, charge}
 use Rattle.carv_objects_spec.specs.Registry.{account_of, create, create_budget, uncharge, remove, refill, charge_cpu, charge_of}
+use Rattle.carv_scheduler_spec.specs.declared.State.TheVariants.{Running}
+use Rattle.carv_scheduler_spec.specs.declared.Cause.TheVariants.{Destroyed, Faulted}
 use Rattle.carv_scheduler_spec.specs.Scheduler.{Board, Value, BoardReply, of_registry, no_switch, switch, ended, word, exit_cause, idle, fresh_context, thread, opening, create_user_thread, start, kill, tick, plan, read_thread, read_current, read_switches, exit_of, by_registry}
 
 -- What a case says of a call.
@@ -24,7 +25,7 @@ Refused n before x = x ≡ refuse n before
 
 -- a new object's id
 abbrev pub new : ℕ → Option Value
-new i = some (of_registry (id i))
+new i = Some (of_registry (id i))
 
 -- the account of the root, and that of another budget
 abbrev pub root : Board → Account
@@ -133,35 +134,35 @@ pub record Edges : Type 0 where
   -- "(m) Removing 3 meanwhile: 10."
   pub removing_3_meanwhile : Refused 10 second_frame.after (by_registry (remove 3 0) second_frame.after)
   -- "With both Frames gone: accepted, root CPU left unchanged." The root has 0 left here, and 6,000,000 where the second carving was not made
-  pub with_both_frames_gone : Accepted none first_gone × Accepted none both_gone
-      × Accepted none (by_registry (remove 3 0) both_gone.after)
+  pub with_both_frames_gone : Accepted None first_gone × Accepted None both_gone
+      × Accepted None (by_registry (remove 3 0) both_gone.after)
       × ((root (by_registry (remove 3 0) both_gone.after).after).cpu_left ≡ (root both_gone.after).cpu_left)
-      × Accepted none (by_registry (remove 3 0) carve.after)
+      × Accepted None (by_registry (remove 3 0) carve.after)
       × ((root (by_registry (remove 3 0) carve.after).after).cpu_left ≡ 6_000_000)
   -- "(m) Start 0: at 9,999,999 no renewal; at 25,000,000 start is 20,000,000."
   pub start_0 : ((root (low 1_000_000)).period_start ≡ 0)
-      × Unmoved (some (of_registry (renewed false))) (low 1_000_000) (by_registry (refill 1 9_999_999) (low 1_000_000))
-      × Accepted (some (of_registry (renewed true))) (by_registry (refill 1 25_000_000) (low 1_000_000))
+      × Unmoved (Some (of_registry (renewed false))) (low 1_000_000) (by_registry (refill 1 9_999_999) (low 1_000_000))
+      × Accepted (Some (of_registry (renewed true))) (by_registry (refill 1 25_000_000) (low 1_000_000))
       × ((root (by_registry (refill 1 25_000_000) (low 1_000_000)).after).period_start ≡ 20_000_000)
       × ((root (by_registry (refill 1 25_000_000) (low 1_000_000)).after).cpu_left ≡ 10_000_000)
   -- "(m) Tick without renewal, 300,000 left: 0 left."
   pub tick_without_renewal : (low_7.current ≡ 7) × ((root low_7).cpu_left ≡ 300_000)
-      × Accepted none (tick 1 low_7)
+      × Accepted None (tick 1 low_7)
       × ((root (tick 1 low_7).after).cpu_left ≡ 0)
       × ((root (tick 1 low_7).after).period_start ≡ 0)
       × ((thread (tick 1 low_7).after.threads 7).ticks ≡ 1)
   -- "(m) Uncharging 4,097 of a Frame: 11; 4,096: charge 0."
   pub uncharging : Refused 11 frame.after (by_registry (uncharge 2 4_097) frame.after)
-      × Accepted none (by_registry (uncharge 2 4_096) frame.after)
-      × Accepted (some (of_registry (charge 1 0))) (by_registry (charge_of 2) (by_registry (uncharge 2 4_096) frame.after).after)
+      × Accepted None (by_registry (uncharge 2 4_096) frame.after)
+      × Accepted (Some (of_registry (charge 1 0))) (by_registry (charge_of 2) (by_registry (uncharge 2 4_096) frame.after).after)
       × ((root (by_registry (uncharge 2 4_096) frame.after).after).memory_used ≡ 0)
   -- "(m) Thread 0 alone: no switch."
-  pub thread_0_alone : Unmoved (some no_switch) board (plan 0 board)
+  pub thread_0_alone : Unmoved (Some no_switch) board (plan 0 board)
   -- "Killed, then planned: idle, switch count 1."
-  pub killed_then_planned : Accepted (some (ended none)) killed_0
-      × Accepted (some (switch 0 idle none)) left_0
-      × Accepted (some (word idle)) (read_current left_0.after)
-      × Accepted (some (word 1)) (read_switches left_0.after)
+  pub killed_then_planned : Accepted (Some (ended None)) killed_0
+      × Accepted (Some (switch 0 idle None)) left_0
+      × Accepted (Some (word idle)) (read_current left_0.after)
+      × Accepted (Some (word 1)) (read_switches left_0.after)
       × Refused 7 left_0.after (read_thread 0 left_0.after)
   -- "(m) Root memory 127, carve 0 and 0: 12, no renewal." At 25,000,000 one is due
   pub root_memory_127 : Refused 12 (low 127) (by_registry (create_budget 1 0 0 25_000_000) (low 127))
@@ -171,30 +172,30 @@ pub record Edges : Type 0 where
       × ((root (by_registry (create_budget 1 0 1 25_000_000) (low 128)).after).cpu_left ≡ 10_000_000)
       × Refused 12 (low 128) (by_registry (create_budget 1 0 1 9_999_999) (low 128))
   -- "Tick 18,446,744,073,709 passes; one more: 3." A planning at that tick too
-  pub tick_passes : Accepted none (tick last_tick with_7) × Refused 3 with_7 (tick (last_tick + 1) with_7)
-      × Accepted (some no_switch) (plan last_tick with_7) × Refused 3 with_7 (plan (last_tick + 1) with_7)
+  pub tick_passes : Accepted None (tick last_tick with_7) × Refused 3 with_7 (tick (last_tick + 1) with_7)
+      × Accepted (Some no_switch) (plan last_tick with_7) × Refused 3 with_7 (plan (last_tick + 1) with_7)
   -- "33 kills: the first is forgotten."
-  pub kills_33 : Accepted (some (exit_cause (some 2))) (exit_of 101 (kills 32))
-      × Accepted (some (exit_cause none)) (exit_of 101 (kills 33))
-      × Accepted (some (exit_cause (some 2))) (exit_of 102 (kills 33))
+  pub kills_33 : Accepted (Some (exit_cause (Some Faulted))) (exit_of 101 (kills 32))
+      × Accepted (Some (exit_cause None)) (exit_of 101 (kills 33))
+      × Accepted (Some (exit_cause (Some Faulted))) (exit_of 102 (kills 33))
       × (length (kills 33).exits ≡ 32)
   -- "The answer is .. old id, new id, and the new root or "kernel's"": to thread 7, and back to thread 0
-  pub own_root : Accepted (some (switch 0 7 (some 40))) to_7
+  pub own_root : Accepted (Some (switch 0 7 (Some 40))) to_7
       × (to_7.after.current ≡ 7)
       × (to_7.after.queue ≡ 0 ∷ [])
-      × Accepted (some (switch 7 0 none)) (plan 0 to_7.after)
+      × Accepted (Some (switch 7 0 None)) (plan 0 to_7.after)
   -- "a current thread in Running, other than idle, goes to the queue's end"; "Idle still reads Running after it is switched away from"
-  pub away_from_idle : Accepted (some (switch 18_446_744_073_709_551_615 7 (some 40))) from_idle
+  pub away_from_idle : Accepted (Some (switch 18_446_744_073_709_551_615 7 (Some 40))) from_idle
       × (from_idle.after.current ≡ 7)
       × (from_idle.after.queue ≡ [])
-      × ((thread from_idle.after.threads 18_446_744_073_709_551_615).state ≡ 3)
+      × ((thread from_idle.after.threads 18_446_744_073_709_551_615).state ≡ Running)
   -- "Mistakes close at hand: .. renewing every budget at a planning": only the chosen thread's is renewed, the other thread not being tested
   pub tested_renewed : ((plan 10 (in_turn 7 8)).after.current ≡ 7) × (starts_at_10 (in_turn 7 8) ≡ 0 ∷ 10_000_000 ∷ [])
       × ((plan 10 (in_turn 8 7)).after.current ≡ 8) × (starts_at_10 (in_turn 8 7) ≡ 10_000_000 ∷ 0 ∷ [])
   -- "a second kill logs it again"; "`exit_of` gives the oldest match"
-  pub second_kill : Accepted (some (ended none)) killed_twice
-      × (killed_twice.after.exits ≡ record { thread = 0; cause = 1 } ∷ record { thread = 0; cause = 2 } ∷ [])
-      × Accepted (some (exit_cause (some 1))) (exit_of 0 killed_twice.after)
+  pub second_kill : Accepted (Some (ended None)) killed_twice
+      × (killed_twice.after.exits ≡ record { thread = 0; cause = Destroyed } ∷ record { thread = 0; cause = Faulted } ∷ [])
+      × Accepted (Some (exit_cause (Some Destroyed))) (exit_of 0 killed_twice.after)
 
 pub edges_hold : Edges
 unfolding due renew

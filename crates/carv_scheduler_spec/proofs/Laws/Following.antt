@@ -1,32 +1,34 @@
 -- Board and book after one call: what the book writes follows what the call leaves, in the registry's half, the current thread and whether it runs, the queue, and
 -- each thread's wait and budget. Assumes nothing.
-use Rattle.std.specs.Prelude.{◌≡◌, refl, Bool, true, false, cond, not, ◌&&◌, ◌||◌, List, [], ◌∷◌, ℕ, suc, ◌*◌, ◌^◌, ◌<◌, min, eqb, ltb, length}
+use Rattle.std.specs.Prelude.{◌≡◌, refl, Bool, true, false, cond, not, ◌&&◌, ◌||◌, List, [], ◌∷◌, ℕ, suc, ◌*◌, ◌^◌, ◌<◌, min, eqb, ltb, length, Option, Some, None}
 use Rattle.std.proofs.Common.{sym, ◌∙◌, ap, true≢false, arith, eqb-true, eq-eqb, ne_eqb}
 use Rattle.std.proofs.lemmas.Bool.{false≢true, eqb-false, not-true}
-use Rattle.std.proofs.Math.Option.{Option, none, some}
 use Rattle.carv_area.specs.Laws.Table
 use Rattle.carv_area.specs.Table.{Row, at, alter, put, pick, Rising}
 use Rattle.carv_area.specs.Laws.Table.{passes, test}
 use Rattle.carv_budget.specs.Account as account
 use Rattle.carv_budget.proofs.Laws.Account.{second}
 use Rattle.carv_objects_spec.proofs.Laws.Asked.{asked}
+use Rattle.carv_objects_spec.specs.Registry as registry
 use Rattle.carv_objects_spec.specs.Registry.{Registry, is_budget, account_of}
 use Rattle.carv_objects_spec.proofs.Laws.SoundFacts as registry_facts
 use Rattle.carv_objects_spec.proofs.Laws.Kept as registry_calls
 use Rattle.carv_objects_spec.specs.Book as objects
 use Rattle.carv_objects_spec.proofs.Laws.History as registry_history
 use Rattle.carv_scheduler_spec.specs.declared.Wait.{Wait}
-use Rattle.carv_scheduler_spec.specs.declared.BudgetId.{BudgetId}
+use Rattle.carv_scheduler_spec.specs.declared.Wait.TheVariants as waits
+use Rattle.carv_scheduler_spec.specs.declared.State.{State}
+use Rattle.carv_scheduler_spec.specs.declared.State.TheVariants.{Inactive, Ready, Blocked, Dead}
 use Rattle.carv_scheduler_spec.specs.declared.Results.{Results}
 use Rattle.carv_scheduler_spec.specs.declared.Context.{Context}
 use Rattle.carv_scheduler_spec.specs.declared.Thread.{Thread}
 use Rattle.carv_scheduler_spec.specs.Scheduler as scheduler
-use Rattle.carv_scheduler_spec.specs.Scheduler.{Board, BoardReply, idle, most_threads, tick_ns, inactive, ready, running, blocked, dead, is, wait, no_wait, wait_of, is_due, budget_id, fresh, or_fresh, thread, has, become, started, woken, ticked, with_registry, with_threads, join, without, results}
+use Rattle.carv_scheduler_spec.specs.Scheduler.{Board, BoardReply, idle, most_threads, tick_ns, inactive, ready, running, blocked, dead, is, wait, wait_in, wait_of, due, is_due, fresh, or_fresh, thread, has, become, started, woken, ticked, with_registry, with_threads, join, without, results}
 use Rattle.carv_scheduler_spec.specs.Sound.{member, distinct}
 use Rattle.carv_scheduler_spec.proofs.Laws.SoundFacts.{Sound}
 use Rattle.carv_scheduler_spec.proofs.Laws.SoundLaws.{queued_there}
 use Rattle.carv_scheduler_spec.proofs.Laws.Reading.{absent, or_true, thread_alter, has_alter, thread_erase, has_erase, thread_put, has_put, distinct_first, distinct_rest, pick_below, pick_distinct}
-use Rattle.carv_scheduler_spec.proofs.Laws.Steps.{renew_for_kept}
+use Rattle.carv_scheduler_spec.proofs.Laws.Steps.{other_state, waits_not, renew_for_kept}
 use Rattle.carv_scheduler_spec.proofs.Laws.Switching.{choose_state, choose_there, put_back_kept, switched, switched_runs, switched_has, switched_budget, switched_wait}
 use Rattle.carv_scheduler_spec.specs.Book as book
 use Rattle.carv_scheduler_spec.specs.Book.{Book, Call, on_objects, create_user_thread, start, block_current, wake, kill, tick, plan, write}
@@ -34,14 +36,10 @@ use Rattle.carv_scheduler_spec.specs.Runs.{run}
 
 -- Board and book.
 
--- the budget that a thread names
-abbrev pub budget_named : BudgetId → Option ℕ
-budget_named p = cond (eqb p.is 0) none (some p.id)
-
 -- the book knows a thread of the board, with its budget
 pub record Known (t : Thread) (m : List (Row book.Thread)) (i : ℕ) : Type 0 where
   pub there : objects.is_some (at m i) ≡ true
-  pub budget : budget_named t.budget ≡ (book.thread m i).budget
+  pub budget : t.budget ≡ (book.thread m i).budget
 
 -- the book may still hold threads that are gone from the board
 pub record FollowsBoard (b : Board) (k : Book) : Type 0 where
@@ -56,17 +54,17 @@ pub record FollowsBoard (b : Board) (k : Book) : Type 0 where
 -- What is read of the board's threads, and of the book's after a write.
 
 -- a thread in another state than Inactive is there
-active_here : (m : List (Row Thread)) (i s : ℕ) → is s (thread m i) ≡ true → eqb inactive s ≡ false → has m i ≡ true
+active_here : (m : List (Row Thread)) (i : ℕ) (s : State → Bool) → is s (thread m i) ≡ true → s Inactive ≡ false → has m i ≡ true
 active_here m i s h n = test (has m i) (λ a. a) (λ a. absurd (true≢false (sym h ∙ rw (absent m i a) n)))
 
 module _ (m : List (Row book.Thread)) (i : ℕ) where
   module _ (f : book.Thread → book.Thread) (h : objects.is_some (at m i) ≡ true) where
-    noted : at m i ≡ some (book.thread m i)
+    noted : at m i ≡ Some (book.thread m i)
     noted = go (at m i) refl
       where
-        go : (o : Option book.Thread) → at m i ≡ o → at m i ≡ some (book.thread m i)
-        go none q = absurd (false≢true (sym (ap objects.is_some q) ∙ h))
-        go (some t) q = q ∙ sym (ap (λ (o : Option book.Thread). some (book.or_none o)) q)
+        go : (o : Option book.Thread) → at m i ≡ o → at m i ≡ Some (book.thread m i)
+        go None q = absurd (false≢true (sym (ap objects.is_some q) ∙ h))
+        go (Some t) q = q ∙ sym (ap (λ (o : Option book.Thread). Some (book.or_none o)) q)
 
     book_alter : (j : ℕ) → book.thread (alter i f m) j ≡ cond (eqb i j) (f (book.thread m i)) (book.thread m j)
     book_alter j = test (eqb i j)
@@ -88,42 +86,42 @@ module _ (m : List (Row book.Thread)) (i : ℕ) where
       (λ a. rw (← eqb-true i j a, eq-eqb i i refl) (ap objects.is_some (Table.at_put m i t)))
       (λ a. rw a (ap objects.is_some (Table.at_put_other m i j t (eqb-false i j a))))
 
--- a thread in a state other than Blocked waits for nothing
-no_wait_in : (s : ℕ) (t : Thread) → is s t ≡ true → eqb s blocked ≡ false → wait_of t ≡ none
-no_wait_in s t h n = rw (eqb-true t.state s h, n)
-
 -- The budgets of threads.
 
-time_same : (r : Registry) (k : objects.Book) → registry_history.FollowsRegistry r k → (p : BudgetId) → scheduler.has_time p r ≡ book.has_time (budget_named p) k
-time_same r k F p = test (eqb p.is 0) (λ a. rw a)
-    (λ a. rw a (test (is_budget r p.id)
-    (λ l. let g = registry_history.budget_agrees r k F p.id l in
-    let q : (account_of r p.id).cpu_left ≡ objects.cpu_left (objects.budget_of k p.id) = omega (arith, g.left) in
-    rw (registry_history.live_same r k F p.id, l, q))
-    (λ l. rw (registry_history.live_same r k F p.id, l))))
+time_same : (r : Registry) (k : objects.Book) → registry_history.FollowsRegistry r k → (p : Option ℕ) → scheduler.has_time p r ≡ book.has_time p k
+time_same r k F None = refl
+time_same r k F (Some p) = test (is_budget r p)
+    (λ l. let g = registry_history.budget_agrees r k F p l in
+    let q : (account_of r p).cpu_left ≡ objects.cpu_left (objects.budget_of k p) = omega (arith, g.left) in
+    rw (registry_history.live_same r k F p, l, q))
+    (λ l. rw (registry_history.live_same r k F p, l))
 
-renew_for_follows : (time : ℕ) (p : BudgetId) (r : Registry) (k : objects.Book) → registry_facts.Sound r → registry_history.FollowsRegistry r k
-    → registry_history.FollowsRegistry (scheduler.renew_for time p r) (book.renew_for time (budget_named p) k)
-renew_for_follows time p r k s F = test (eqb p.is 0) (λ a. rw a F)
-    (λ a. rw a (test (is_budget r p.id)
-    (λ l. let (e, B) = registry_calls.live_budget r p.id l in
-    rw (registry_history.live_same r k F p.id, l) (registry_history.renew_follows r k p.id time e s F B))
-    (λ l. rw (registry_history.live_same r k F p.id, l) F)))
+refill_follows : (time p : ℕ) (r : Registry) (k : objects.Book) → registry_facts.Sound r → registry_history.FollowsRegistry r k
+    → registry_history.FollowsRegistry (registry.refill p time r).after (cond (objects.is_live k p) (objects.on_budget p (objects.renew time) k) k)
+refill_follows time p r k s F = test (is_budget r p)
+    (λ l. let (e, B) = registry_calls.live_budget r p l in
+    rw (registry_history.live_same r k F p, l) (registry_history.renew_follows r k p time e s F B))
+    (λ l. rw (registry_history.live_same r k F p, l) F)
 
-charge_tick_follows : (time : ℕ) (p : BudgetId) (r : Registry) (k : objects.Book) → registry_facts.Sound r → registry_history.FollowsRegistry r k
-    → registry_history.FollowsRegistry (scheduler.charge_tick time p r) (book.tick_for time (budget_named p) k)
-charge_tick_follows time p r k s F = test (eqb p.is 0) (λ a. rw a F)
-    (λ a. rw a (test (is_budget r p.id)
-    (λ l. let (e, B) = registry_calls.live_budget r p.id l in
-    rw (registry_history.live_same r k F p.id, l)
-    (registry_history.follow_account r k F p.id e B
+renew_for_follows : (time : ℕ) (p : Option ℕ) (r : Registry) (k : objects.Book) → registry_facts.Sound r → registry_history.FollowsRegistry r k
+    → registry_history.FollowsRegistry (scheduler.renew_for time p r) (book.renew_for time p k)
+renew_for_follows time None r k s F = F
+renew_for_follows time (Some p) r k s F = refill_follows time p r k s F
+
+charge_tick_follows : (time : ℕ) (p : Option ℕ) (r : Registry) (k : objects.Book) → registry_facts.Sound r → registry_history.FollowsRegistry r k
+    → registry_history.FollowsRegistry (scheduler.charge_tick time p r) (book.tick_for time p k)
+charge_tick_follows time None r k s F = F
+charge_tick_follows time (Some p) r k s F = test (is_budget r p)
+    (λ l. let (e, B) = registry_calls.live_budget r p l in
+    rw (registry_history.live_same r k F p, l)
+    (registry_history.follow_account r k F p e B
     (λ x. account.spend (account.renew x time) (min tick_ns (account.renew x time).cpu_left))
     (λ x. objects.take_cpu (min tick_ns (objects.cpu_left (objects.renew time x))) (objects.renew time x)) λ x g.
     let G = registry_history.renew_agrees e.account x time (registry_calls.budget_sound s B) g in
     let q : (account.renew e.account time).cpu_left ≡ objects.cpu_left (objects.renew time x) = omega (arith, G.left) in
     rw (← q) (registry_history.spend_agrees (account.renew e.account time) (objects.renew time x)
     (min tick_ns (account.renew e.account time).cpu_left) (omega arith) G)))
-    (λ l. rw (registry_history.live_same r k F p.id, l) F)))
+    (λ l. rw (registry_history.live_same r k F p, l) F)
 
 -- Threads written on both sides.
 
@@ -165,7 +163,7 @@ module _ (b : Board) (k : Book) (F : FollowsBoard b k) (i : ℕ) (f : Thread →
       let K = F.budgets j (sym (has_alter b.threads i f h j) ∙ e) in
       record {
         there = K.there;
-        budget = ap (λ (t : Thread). budget_named t.budget) (thread_alter b.threads i f h j)
+        budget = ap (λ (t : Thread). t.budget) (thread_alter b.threads i f h j)
             ∙ test (eqb i j) (λ a. rw (a, eqb-true i j a, paid (thread b.threads j)) K.budget) (λ a. rw a K.budget);
       }
 
@@ -188,16 +186,16 @@ module _ (b : Board) (k : Book) (F : FollowsBoard b k) (i : ℕ) (f : Thread →
   }
 
   -- it waits no more, and joins the queue
-  wake_joins : is running (f (thread b.threads i)) ≡ is running (thread b.threads i) → wait_of (f (thread b.threads i)) ≡ none
+  wake_joins : is running (f (thread b.threads i)) ≡ is running (thread b.threads i) → wait_of (f (thread b.threads i)) ≡ None
       → FollowsBoard (with_threads (alter i f b.threads) (join b.queue i) b) (book.woken i k)
   wake_joins q v = record {
     objects = F.objects;
     current = F.current;
     queue = ap (λ (l : List ℕ). join l i) F.queue;
     runs = runs_same q;
-    rising = Table.rising_alter k.threads 0 (2 ^ 64) i (book.waiting none) F.rising;
-    waits = waits_alter none v;
-    budgets = known_alter none;
+    rising = Table.rising_alter k.threads 0 (2 ^ 64) i (book.waiting None) F.rising;
+    waits = waits_alter None v;
+    budgets = known_alter None;
   }
 
 -- One call: what it leaves is followed by what the book writes.
@@ -219,7 +217,7 @@ module _ (b : Board) (k : Book) (s : Sound b) (F : FollowsBoard b k) where
 
   -- a new thread stands in both tables
   created : (i budget : ℕ) → i < 2 ^ 64 → has b.threads i ≡ false
-      → FollowsBoard (with_threads (put i (fresh inactive (budget_id budget)) b.threads) b.queue b) (book.accepted (create_user_thread i budget true) k)
+      → FollowsBoard (with_threads (put i (fresh Inactive (Some budget)) b.threads) b.queue b) (book.accepted (create_user_thread i budget true) k)
   created i budget fits missing = record {
     objects = F.objects;
     current = F.current;
@@ -234,10 +232,10 @@ module _ (b : Board) (k : Book) (s : Sound b) (F : FollowsBoard b k) where
   }
     where
       t : Thread
-      t = fresh inactive (budget_id budget)
+      t = fresh Inactive (Some budget)
 
       u : book.Thread
-      u = record { budget = some budget; wait = none }
+      u = record { budget = Some budget; wait = None }
 
       new : (j : ℕ) → thread (put i t b.threads) j ≡ cond (eqb i j) t (thread b.threads j)
       new = thread_put b.threads i t
@@ -263,15 +261,16 @@ module _ (b : Board) (k : Book) (s : Sound b) (F : FollowsBoard b k) where
       let P = Written (start i space cspace root context) k in
       asked P (has b.threads i) F λ h.
       asked P (is inactive (thread b.threads i)) F λ state.
-      let q = eqb-true (thread b.threads i).state inactive state in
-      start_joins b k F i (started (scheduler.in_spaces space cspace root) context) h (λ t. refl) (rw q) (rw q)
+      start_joins b k F i (started (scheduler.in_spaces space cspace root) context) h (λ t. refl)
+      (sym (other_state inactive running (thread b.threads i) state (λ _. refl)))
+      (sym (waits_not (thread b.threads i) (other_state inactive blocked (thread b.threads i) state (λ _. refl))))
 
   pub wake_follows : (i : ℕ) (r : Results) → Written (wake i r) k (run (wake i r) b)
   wake_follows i r =
       let P = Written (wake i r) k in
       asked P (has b.threads i) F λ h.
       asked P (is blocked (thread b.threads i)) F λ state.
-      wake_joins b k F i (woken r) h (λ t. refl) (rw (eqb-true (thread b.threads i).state blocked state)) refl
+      wake_joins b k F i (woken r) h (λ t. refl) (sym (other_state blocked running (thread b.threads i) state (λ _. refl))) refl
 
   pub block_follows : (kind number : ℕ) → Written (block_current kind number) k (run (block_current kind number) b)
   block_follows kind number =
@@ -279,16 +278,16 @@ module _ (b : Board) (k : Book) (s : Sound b) (F : FollowsBoard b k) where
       asked P (scheduler.wait_listed kind) F λ code.
       asked P (is running (thread b.threads b.current)) F λ state.
       asked P (not (eqb b.current idle)) F λ busy.
-      let f = become blocked (wait kind number) in
+      let f = become (Blocked (wait kind number)) in
       let h = s.current_here in
       rw (← F.current) (record {
         objects = F.objects;
         current = refl;
         queue = F.queue;
         runs = rw (thread_alter b.threads b.current f h b.current, eq-eqb b.current b.current refl);
-        rising = Table.rising_alter k.threads 0 (2 ^ 64) b.current (book.waiting (some (wait kind number))) F.rising;
-        waits = waits_alter b k F b.current f h (λ t. refl) (some (wait kind number)) refl;
-        budgets = known_alter b k F b.current f h (λ t. refl) (some (wait kind number));
+        rising = Table.rising_alter k.threads 0 (2 ^ 64) b.current (book.waiting (Some (wait kind number))) F.rising;
+        waits = waits_alter b k F b.current f h (λ t. refl) (Some (wait kind number)) refl;
+        budgets = known_alter b k F b.current f h (λ t. refl) (Some (wait kind number));
       })
 
   pub kill_follows : (i cause : ℕ) → Written (kill i cause) k (run (kill i cause) b)
@@ -298,18 +297,18 @@ module _ (b : Board) (k : Book) (s : Sound b) (F : FollowsBoard b k) where
       asked P (not (eqb i idle)) F λ busy.
       asked P (has b.threads i) F λ h.
       let here = (F.budgets i h).there in
-      let up = Table.rising_alter k.threads 0 (2 ^ 64) i (book.waiting none) F.rising in
+      let up = Table.rising_alter k.threads 0 (2 ^ 64) i (book.waiting None) F.rising in
       let queue = ap (λ (q : List ℕ). without i q) F.queue in
       test (eqb i b.current)
-      (λ a. let f = become dead no_wait in
+      (λ a. let f = become Dead in
       rw (← F.current, a) (record {
         objects = F.objects;
         current = refl;
         queue = queue;
         runs = rw (thread_alter b.threads i f h b.current, a);
         rising = up;
-        waits = waits_alter b k F i f h (λ t. refl) none refl;
-        budgets = known_alter b k F i f h (λ t. refl) none;
+        waits = waits_alter b k F i f h (λ t. refl) None refl;
+        budgets = known_alter b k F i f h (λ t. refl) None;
       }))
       (λ a. let gone = thread_erase b.threads i 0 (2 ^ 64) s.rising in
       let left = has_erase b.threads i 0 (2 ^ 64) s.rising in
@@ -319,10 +318,10 @@ module _ (b : Board) (k : Book) (s : Sound b) (F : FollowsBoard b k) where
         queue = queue;
         runs = rw (gone b.current, a) F.runs;
         rising = up;
-        waits = λ j. rw (gone j, book_alter k.threads i (book.waiting none) here j) (test (eqb i j) (λ e. rw e) (λ e. rw e (F.waits j)));
+        waits = λ j. rw (gone j, book_alter k.threads i (book.waiting None) here j) (test (eqb i j) (λ e. rw e) (λ e. rw e (F.waits j)));
         budgets = λ j e. test (eqb i j)
             (λ g. absurd (false≢true (sym (left j ∙ rw g) ∙ e)))
-            (λ g. rw (gone j, g) (known_waiting (thread b.threads j) k.threads i j none here (F.budgets j (sym (left j ∙ rw g) ∙ e))));
+            (λ g. rw (gone j, g) (known_waiting (thread b.threads j) k.threads i j None here (F.budgets j (sym (left j ∙ rw g) ∙ e))));
       }))
 
 -- A tick: the sleepers that are due are the same by the board and by the book.
@@ -336,19 +335,24 @@ module _ {A : Type 0} (p : A → Bool) where
       (λ e. rw e (pick_passes m (suc r.id) n i u.1 (test (p r.it)
       (λ a. rw (a, e) at h) (λ a. rw a at h))))
 
+due_same_wait : (n : ℕ) (w : Option Wait) → due n w ≡ book.is_due n w
+due_same_wait n None = refl
+due_same_wait n (Some (waits.Sleep at)) = refl
+due_same_wait n (Some _) = refl
+
 due_thread : (n : ℕ) (t : Thread) → is_due n t ≡ book.is_due n (wait_of t)
-due_thread n t = test (is blocked t) (λ a. rw a) (λ a. rw a)
+due_thread n t = due_same_wait n (wait_of t)
 
 due_read : (n : ℕ) (o : Option Thread) → passes (is_due n) o ≡ book.is_due n (wait_of (or_fresh o))
-due_read n none = refl
-due_read n (some t) = due_thread n t
+due_read n None = refl
+due_read n (Some t) = due_thread n t
 
 due_noted : (n : ℕ) (o : Option book.Thread) → passes (λ t. book.is_due n t.wait) o ≡ book.is_due n (book.or_none o).wait
-due_noted n none = refl
-due_noted n (some t) = refl
+due_noted n None = refl
+due_noted n (Some t) = refl
 
 due_blocked : (n : ℕ) (t : Thread) → book.is_due n (wait_of t) ≡ true → is blocked t ≡ true
-due_blocked n t h = test (is blocked t) (λ a. a) (λ a. absurd (false≢true (rw a at h)))
+due_blocked n t h = test (is blocked t) (λ a. a) (λ a. absurd (false≢true (rw (waits_not t a) at h)))
 
 due_same : (n : ℕ) (b : Board) (k : Book) → Sound b → FollowsBoard b k → pick (is_due n) b.threads ≡ pick (λ t. book.is_due n t.wait) k.threads
 due_same n b k s F =
@@ -369,7 +373,7 @@ wake_all_follows (i ∷ l) b k F d w =
     let b' : Board = with_threads (alter i f b.threads) (join b.queue i) b in
     let e : (scheduler.wake i (results 0 0 0) b).after ≡ b' = rw (h, state) in
     rw e (wake_all_follows l b' (book.woken i k)
-    (wake_joins b k F i f h (λ t. refl) (rw (eqb-true (thread b.threads i).state blocked state)) refl)
+    (wake_joins b k F i f h (λ t. refl) (sym (other_state blocked running (thread b.threads i) state (λ _. refl))) refl)
     (distinct_rest i l d)
     (λ j m. let off : eqb i j ≡ false = ne_eqb i j (λ q. true≢false (sym m ∙ rw q at (distinct_first i l d))) in
     rw (thread_alter b.threads i f h j, off) (w j (or_true (eqb i j) m))))
@@ -381,7 +385,7 @@ module _ (b : Board) (k : Book) (s : Sound b) (F : FollowsBoard b k) where
       let p = (thread b.threads b.current).budget in
       let b' : Board = with_registry (scheduler.charge_tick time p b.registry) (with_threads (alter b.current ticked b.threads) b.queue b) in
       let k' : Book = record {
-        objects = book.tick_for time (budget_named p) k.objects;
+        objects = book.tick_for time p k.objects;
         threads = k.threads;
         queue = k.queue;
         current = b.current;
@@ -430,7 +434,7 @@ choose_follows b k F time (i ∷ q) r o live s G =
     let h = live i (rw (eq-eqb i i refl)) in
     let p = (thread b.threads i).budget in
     let r' = scheduler.renew_for time p r in
-    let o' = book.renew_for time (budget_named p) o in
+    let o' = book.renew_for time p o in
     let G' = renew_for_follows time p r o s G in
     rw (h, ← (F.budgets i h).budget, ← time_same r' o' G' p)
     (tested (scheduler.has_time p r') i q r' o' (scheduler.choose time b.threads q r') (book.choose time k.threads q o') G'
@@ -450,7 +454,7 @@ module _ (b : Board) (k : Book) (s : Sound b) (F : FollowsBoard b k) where
   pub put_back_follows : FollowsBoard (scheduler.put_back b) (put_back_book k)
   put_back_follows =
       rw (← F.current, ← F.runs) (test (not (eqb b.current idle) && is running (thread b.threads b.current))
-      (λ a. let f = become ready no_wait in
+      (λ a. let f = become Ready in
       let h = s.current_here in
       let state = second (not (eqb b.current idle)) (is running (thread b.threads b.current)) a in
       rw a (record {
@@ -459,7 +463,7 @@ module _ (b : Board) (k : Book) (s : Sound b) (F : FollowsBoard b k) where
         queue = ap (λ (q : List ℕ). join q b.current) F.queue;
         runs = rw (thread_alter b.threads b.current f h b.current, eq-eqb b.current b.current refl);
         rising = F.rising;
-        waits = waits_same b k F b.current f h (λ t. refl) (sym (no_wait_in running (thread b.threads b.current) state refl));
+        waits = waits_same b k F b.current f h (λ t. refl) (sym (waits_not (thread b.threads b.current) (other_state running blocked (thread b.threads b.current) state (λ _. refl))));
         budgets = known b k F b.current f h (λ t. refl);
       }))
       (λ a. rw a (record {
@@ -489,7 +493,7 @@ module _ (b : Board) (k : Book) (s : Sound b) (F : FollowsBoard b k) where
         waits = λ j. switched_wait b c.next m w (choose_state b s time b.registry) j ∙ F.waits j;
         budgets = λ j e.
             let K = F.budgets j (switched_has b c.next m w j e) in
-            record { there = K.there; budget = ap budget_named (switched_budget b c.next m w j e) ∙ K.budget };
+            record { there = K.there; budget = switched_budget b c.next m w j e ∙ K.budget };
       })
 
 pub plan_follows : (n : ℕ) (b : Board) (k : Book) → Sound b → FollowsBoard b k → Written (plan n) k (run (plan n) b)

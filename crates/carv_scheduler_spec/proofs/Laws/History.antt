@@ -1,8 +1,7 @@
 -- Demand 3's histories: after each list of calls the board is sound, and the book follows it. Assumes nothing.
-use Rattle.std.specs.Prelude.{◌≡◌, refl, true, List, [], ◌∷◌, ℕ, ◌≤◌}
+use Rattle.std.specs.Prelude.{◌≡◌, refl, true, List, [], ◌∷◌, ℕ, ◌≤◌, None}
 use Rattle.std.proofs.Common.{ap, arith}
 use Rattle.std.proofs.lemmas.Bool.{false≢true}
-use Rattle.std.proofs.Math.Option.{none}
 use Rattle.carv_area.specs.Table.{at}
 use Rattle.carv_budget.specs.Account as account
 use Rattle.carv_objects_spec.proofs.Laws.Asked.{asked}
@@ -69,8 +68,8 @@ opening_follows cpu memory = record {
   runs = refl;
   rising = (omega arith, (omega arith, omega arith));
   waits = calls.three (λ i. wait_of (thread (scheduler.opening cpu memory).threads i) ≡ (book.thread (book.opening cpu memory).threads i).wait) refl refl
-      (λ i a c. let q : at (scheduler.opening cpu memory).threads i ≡ none = rw (a, c) in
-      let z : at (book.opening cpu memory).threads i ≡ none = rw (a, c) in
+      (λ i a c. let q : at (scheduler.opening cpu memory).threads i ≡ None = rw (a, c) in
+      let z : at (book.opening cpu memory).threads i ≡ None = rw (a, c) in
       rw (ap or_fresh q, ap book.or_none z));
   budgets = calls.three (λ i. has (scheduler.opening cpu memory).threads i ≡ true
       → Known (thread (scheduler.opening cpu memory).threads i) (book.opening cpu memory).threads i)

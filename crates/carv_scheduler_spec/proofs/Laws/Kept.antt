@@ -1,24 +1,24 @@
 -- Each call of the board keeps a sound board sound. Assumes nothing.
-use Rattle.std.specs.Prelude.{◌≡◌, refl, Bool, true, false, not, ◌&&◌, List, [], ◌∷◌, ℕ, ◌*◌, ◌^◌, ◌≤◌, ◌<◌, eqb, ltb, length}
-use Rattle.std.proofs.Common.{sym, ◌∙◌, ap, subst, true≢false, arith, eqb-true, ltb-true}
+use Rattle.std.specs.Prelude.{◌≡◌, refl, Bool, true, false, not, ◌&&◌, List, [], ◌∷◌, ℕ, ◌*◌, ◌^◌, ◌≤◌, ◌<◌, eqb, ltb, length, is_none, Some, None}
+use Rattle.std.proofs.Common.{sym, ◌∙◌, ap, subst, arith, eqb-true, ltb-true}
 use Rattle.std.proofs.lemmas.Bool.{false≢true, not-true}
-use Rattle.std.proofs.Math.Option.{none}
 use Rattle.carv_area.specs.Laws.Table
-use Rattle.carv_area.specs.Table.{at, alter, put, pick}
+use Rattle.carv_area.specs.Table.{at, alter, pick}
 use Rattle.carv_area.specs.Laws.Table.{test}
 use Rattle.carv_budget.specs.Account.{period}
 use Rattle.carv_objects_spec.proofs.Laws.Asked.{asked}
 use Rattle.carv_objects_spec.specs.Registry as registry
 use Rattle.carv_objects_spec.proofs.Laws.SoundFacts as objects
 use Rattle.carv_objects_spec.proofs.Laws.Kept as objects_kept
+use Rattle.carv_scheduler_spec.specs.declared.State.TheVariants.{Inactive, Blocked, Dead}
 use Rattle.carv_scheduler_spec.specs.declared.Context.{Context}
 use Rattle.carv_scheduler_spec.specs.declared.Results.{Results}
 use Rattle.carv_scheduler_spec.specs.declared.Exit.{Exit}
-use Rattle.carv_scheduler_spec.specs.Scheduler.{Board, BoardReply, idle, most_threads, tick_ns, tick_fits, inactive, ready, running, blocked, dead, is, is_due, wait, wait_listed, cause_listed, no_wait, no_budget_id, budget_id, in_spaces, results, fresh, or_fresh, thread, has, started, woken, ticked, with_registry, with_threads, logged, charge_tick, opening, create_user_thread, start, block_current, wake, is_blocked_on, kill, wake_all, tick, put_back, choose, plan, read_thread, on_registry}
+use Rattle.carv_scheduler_spec.specs.Scheduler.{Board, BoardReply, idle, most_threads, tick_ns, tick_fits, inactive, ready, running, blocked, dead, is, is_due, wait, wait_listed, cause_listed, cause_of, in_spaces, results, fresh, or_fresh, thread, has, started, woken, ticked, with_registry, with_threads, logged, charge_tick, opening, create_user_thread, start, block_current, wake, is_blocked_on, kill, wake_all, tick, put_back, choose, plan, read_thread, on_registry}
 use Rattle.carv_scheduler_spec.specs.Sound.{unpaid}
-use Rattle.carv_scheduler_spec.proofs.Laws.SoundFacts.{SoundThread, Sound}
+use Rattle.carv_scheduler_spec.proofs.Laws.SoundFacts.{Sound}
 use Rattle.carv_scheduler_spec.proofs.Laws.Reading.{and_false, or_true, thread_put, has_put, without_absent}
-use Rattle.carv_scheduler_spec.proofs.Laws.Steps.{other_state, fresh_sound, become_sound, no_wait_sound, started_sound, woken_sound, codes_of, codes_by, apart, join_kept, stop_kept, gone_kept, put_state, registry_kept, charge_tick_kept, ticked_kept, logged_few, logged_listed}
+use Rattle.carv_scheduler_spec.proofs.Laws.Steps.{other_state, apart, join_kept, stop_kept, gone_kept, put_state, registry_kept, charge_tick_kept, ticked_kept, logged_few}
 use Rattle.carv_scheduler_spec.proofs.Laws.Switching.{put_back_kept, put_back_idle, chosen, switch_to_kept}
 
 -- a reply leaves a sound board
@@ -34,19 +34,16 @@ create_user_thread_kept i budget stack b low o =
     asked Keeps (ltb (length b.threads) most_threads) o λ room.
     asked Keeps stack o λ backing.
     let m = b.threads in
-    let t = fresh inactive (budget_id budget) in
+    let t = fresh Inactive (Some budget) in
     let missing = not-true (has m i) h in
     let busy = not-true (eqb i idle) k in
-    let state = put_state m i (budget_id budget) missing in
+    let state = put_state m i (Some budget) missing in
     let now = thread_put m i t in
     let here = has_put m i t in
     record {
       registry = o.registry;
       few = omega (arith, Table.length_put m i t, ltb-true (length m) most_threads room);
       rising = Table.rising_put m 0 (2 ^ 64) i t (omega arith) low o.rising;
-      codes = codes_by (put i t m) (λ j. rw (now j) (test (eqb i j)
-          (λ a. rw a (fresh_sound inactive (budget_id budget) (omega arith) (omega arith) refl (λ q. refl) (λ q. absurd (omega arith))))
-          (λ a. rw a (codes_of b o j))));
       distinct_queue = o.distinct_queue;
       queued = λ j. rw (state j) (o.queued j);
       dead_current = λ j d. o.dead_current j (rw (state j) at d);
@@ -60,23 +57,20 @@ create_user_thread_kept i budget stack b low o =
           (λ a. rw (a, ← eqb-true i j a, not-true (eqb i 0) n, busy))
           (λ a. rw a (o.budgets j (rw (here j, a) at d))));
       few_exits = o.few_exits;
-      causes = o.causes;
     }
 
 pub start_kept : (i space cspace root : ℕ) (x : Context) (b : Board) → Sound b → Sound (start i space cspace root x b).after
 start_kept i space cspace root x b o =
     asked Keeps (has b.threads i) o λ h.
     asked Keeps (is inactive (thread b.threads i)) o λ s.
-    join_kept b i (started (in_spaces space cspace root) x) o h (apart b o i inactive s refl refl)
-    (other_state inactive ready (thread b.threads i) s refl)
-    (started_sound space cspace root x (thread b.threads i) (codes_of b o i)) refl refl
+    join_kept b i (started (in_spaces space cspace root) x) o h (apart b o i inactive s (λ _. refl) (λ _. refl))
+    (other_state inactive ready (thread b.threads i) s (λ _. refl)) refl refl
 
 pub wake_kept : (i : ℕ) (r : Results) (b : Board) → Sound b → Sound (wake i r b).after
 wake_kept i r b o =
     asked Keeps (has b.threads i) o λ h.
     asked Keeps (is blocked (thread b.threads i)) o λ s.
-    join_kept b i (woken r) o h (apart b o i blocked s refl refl) (other_state blocked ready (thread b.threads i) s refl)
-    (woken_sound r (thread b.threads i) (codes_of b o i)) refl refl
+    join_kept b i (woken r) o h (apart b o i blocked s (λ _. refl) (λ _. refl)) (other_state blocked ready (thread b.threads i) s (λ _. refl)) refl refl
 
 pub wake_all_kept : (is : List ℕ) (b : Board) → Sound b → Sound (wake_all is b)
 wake_all_kept [] b o = o
@@ -88,10 +82,8 @@ block_current_kept kind number b o =
     asked Keeps (wait_listed kind) o λ c.
     asked Keeps (is running t) o λ s.
     asked Keeps (not (eqb b.current idle)) o λ n.
-    let p = stop_kept b blocked (wait kind number) b.exits o (not-true (eqb b.current idle) n)
-    (become_sound blocked (wait kind number) t (codes_of b o b.current) (omega arith) (omega arith) (λ a. c) (λ a. absurd (true≢false a)))
-    refl refl o.few_exits o.causes in
-    let out = o.queued b.current ∙ rw (other_state running ready t s refl) (and_false (not (eqb b.current idle))) in
+    let p = stop_kept b (Blocked (wait kind number)) b.exits o (not-true (eqb b.current idle) n) refl refl o.few_exits in
+    let out = o.queued b.current ∙ rw (other_state running ready t s (λ _. refl)) (and_false (not (eqb b.current idle))) in
     rw (without_absent b.current b.queue out) at p
 
 pub kill_kept : (i cause : ℕ) (b : Board) → Sound b → Sound (kill i cause b).after
@@ -102,12 +94,10 @@ kill_kept i cause b o =
     let busy = not-true (eqb i idle) n in
     test (eqb i b.current)
     (λ a. rw a (let q = eqb-true i b.current a in
-    let e : Exit = record { thread = b.current; cause = cause } in
-    rw q (stop_kept b dead no_wait (logged e b.exits) o (rw q at busy)
-    (no_wait_sound dead (thread b.threads b.current) (codes_of b o b.current) (omega arith) (omega arith) refl) refl refl
-    (logged_few e b.exits o.few_exits) (logged_listed e b.exits c o.causes))))
-    (λ a. rw a (let e : Exit = record { thread = i; cause = cause } in
-    gone_kept b i (logged e b.exits) o busy a (logged_few e b.exits o.few_exits) (logged_listed e b.exits c o.causes)))
+    let e : Exit = record { thread = b.current; cause = cause_of cause } in
+    rw q (stop_kept b Dead (logged e b.exits) o (rw q at busy) refl refl (logged_few e b.exits o.few_exits))))
+    (λ a. rw a (let e : Exit = record { thread = i; cause = cause_of cause } in
+    gone_kept b i (logged e b.exits) o busy a (logged_few e b.exits o.few_exits)))
 
 pub tick_kept : (n : ℕ) (b : Board) → Sound b → Sound (tick n b).after
 tick_kept n b o =
@@ -151,10 +141,6 @@ opening_sound cpu memory h =
       registry = objects_kept.opening_sound cpu memory h;
       few = omega arith;
       rising = (omega arith, (omega arith, omega arith));
-      codes = Table.at_all (λ i t. SoundThread t) m (
-        fresh_sound running no_budget_id (omega arith) (omega arith) refl (λ a. absurd (a refl)) (λ a. refl),
-        (fresh_sound ready no_budget_id (omega arith) (omega arith) refl (λ a. absurd (a refl)) (λ a. refl), tt),
-      );
       distinct_queue = refl;
       queued = three (λ i. false ≡ (not (eqb i idle) && is ready (thread m i))) refl refl
           (λ i a c. rw (other i a c) (sym (and_false (not (eqb i idle)))));
@@ -167,11 +153,10 @@ opening_sound cpu memory h =
       idle_here = refl;
       idle_state = refl;
       idle_runs = λ q. absurd (omega arith);
-      budgets = three (λ i. has m i ≡ true → eqb (thread m i).budget.is 0 ≡ unpaid i) (λ d. refl) (λ d. refl)
+      budgets = three (λ i. has m i ≡ true → is_none (thread m i).budget ≡ unpaid i) (λ d. refl) (λ d. refl)
           (λ i a c d. absurd (false≢true (rw (a, c) at d)));
       few_exits = omega arith;
-      causes = refl;
     }
   where
-    other : (i : ℕ) → eqb 0 i ≡ false → eqb idle i ≡ false → thread (opening cpu memory).threads i ≡ fresh inactive no_budget_id
-    other i a c = let q : at (opening cpu memory).threads i ≡ none = rw (a, c) in ap or_fresh q
+    other : (i : ℕ) → eqb 0 i ≡ false → eqb idle i ≡ false → thread (opening cpu memory).threads i ≡ fresh Inactive None
+    other i a c = let q : at (opening cpu memory).threads i ≡ None = rw (a, c) in ap or_fresh q

@@ -1,7 +1,6 @@
 -- P3's cases on a board: a history that spends exactly the allowance, histories that overspend because their clock falls, each by another call, what ticks charge, and which calls
 -- have a clock value. The definitions satisfy these together. Assumes nothing.
-use Rattle.std.specs.Prelude.{◌≡◌, refl, true, List, [], ◌∷◌, ◌++◌, map, ℕ}
-use Rattle.std.proofs.Math.Option.{none, some}
+use Rattle.std.specs.Prelude.{◌≡◌, refl, true, List, [], ◌∷◌, ◌++◌, map, ℕ, Some, None}
 use Rattle.std.proofs.Common.{arith}
 use Rattle.carv_budget.specs.Account.{due, renew}
 use Rattle.carv_objects_spec.specs.Book.{create_budget, charge_cpu, remove, refill, read_account}
@@ -92,10 +91,10 @@ pub record BoardLedgerCases : Type 0 where
   pub unpaid : ledger (tick 1 ∷ []) ≡ ledger []
   pub late : (refusals (tick 18_446_744_073_710 ∷ []) ≡ 3 ∷ []) × (ledger (running ++ (tick 18_446_744_073_710 ∷ [])) ≡ ledger running)
   -- the clock values: those of the registry's calls, a tick's and a planning's; of no other call, a sleep's tick included
-  pub times : map clock (on_objects (refill 8 9) ∷ tick 3 ∷ plan 4 ∷ []) ≡ some 9 ∷ some 3_000_000 ∷ some 4_000_000 ∷ []
+  pub times : map clock (on_objects (refill 8 9) ∷ tick 3 ∷ plan 4 ∷ []) ≡ Some 9 ∷ Some 3_000_000 ∷ Some 4_000_000 ∷ []
   pub no_times : map clock (on_objects (read_account 8) ∷ create_user_thread 7 1 true ∷ start 7 20 30 40 fresh_context ∷ block_current 5 6 ∷ wake 7 (results 0 0 0) ∷ is_blocked_on 7 5 6 ∷ kill 7 1
       ∷ read_thread 7 ∷ read_current ∷ read_switches ∷ exit_of 7 ∷ [])
-      ≡ none ∷ none ∷ none ∷ none ∷ none ∷ none ∷ none ∷ none ∷ none ∷ none ∷ none ∷ []
+      ≡ None ∷ None ∷ None ∷ None ∷ None ∷ None ∷ None ∷ None ∷ None ∷ None ∷ None ∷ []
 
 pub board_ledger_cases_hold : BoardLedgerCases
 unfolding due renew

@@ -1,18 +1,20 @@
 -- Document 01's listed waits and causes, states, ids, limits and refusal numbers of threads, with the numbers written out: a field for each sentence, most of them a
 -- case on either side of a limit. Assumes nothing.
-use Rattle.std.specs.Prelude.{◌≡◌, refl, true, false, List, [], ◌∷◌, ℕ, zero, suc, ◌+◌, ◌≤◌, ◌<◌, length}
-use Rattle.std.proofs.Math.Option.{none, some}
+use Rattle.std.specs.Prelude.{◌≡◌, refl, true, false, List, [], ◌∷◌, ℕ, zero, suc, ◌+◌, ◌≤◌, ◌<◌, length, Some, None}
 use Rattle.std.proofs.Common.{arith, le-leb}
 use Rattle.std.proofs.lemmas.Bool.{lt-leb}
 use Rattle.carv_budget.specs.Account.{due, renew}
 use Rattle.carv_objects_spec.specs.Book as objects
 use Rattle.carv_objects_spec.specs.Registry.{account_of}
+use Rattle.carv_scheduler_spec.specs.declared.Wait.TheVariants.{Sleep}
+use Rattle.carv_scheduler_spec.specs.declared.State.{State}
+use Rattle.carv_scheduler_spec.specs.declared.State.TheVariants.{Inactive, Ready, Running, Blocked, Dead}
 use Rattle.carv_scheduler_spec.specs.declared.Context.{Context}
 use Rattle.carv_scheduler_spec.specs.declared.Results.{Results}
 use Rattle.carv_scheduler_spec.specs.declared.Thread.{Thread}
 use Rattle.carv_scheduler_spec.specs.Book as book
 use Rattle.carv_scheduler_spec.specs.Demand1.{renewal_left}
-use Rattle.carv_scheduler_spec.specs.Scheduler.{Board, no_switch, ended, is_blocked, record_of, idle, last_tick, ready, wait_listed, cause_listed, no_budget_id, fresh_context, results, fresh, thread, most_exits, most_threads, opening, create_user_thread, start, block_current, wake, is_blocked_on, kill, tick, plan, read_thread}
+use Rattle.carv_scheduler_spec.specs.Scheduler.{Board, no_switch, ended, is_blocked, record_of, idle, last_tick, wait_listed, cause_listed, fresh_context, results, fresh, thread, most_exits, most_threads, opening, create_user_thread, start, block_current, wake, is_blocked_on, kill, tick, plan, read_thread}
 use Rattle.carv_scheduler_spec.specs.Sound.{sound}
 use Rattle.carv_scheduler_spec.proofs.Laws.SoundLaws.{sound_told}
 
@@ -39,12 +41,11 @@ abbrev pub asleep_with : (first second third : ℕ) → Board
 asleep_with first second third = (plan 0 (block_current 5 3 (plan 0 (wake 7 (results first second third) asleep).after).after).after).after
 
 -- thread 7, started with space 20, cspace 30 and root 40
-abbrev pub at_work : (state kind number : ℕ) → Context → Results → (ticks : ℕ) → Thread
-at_work state kind number context results ticks = record {
+abbrev pub at_work : State → Context → Results → (ticks : ℕ) → Thread
+at_work state context results ticks = record {
   state = state;
-  wait = record { kind = kind; number = number };
-  budget = record { is = 1; id = 1 };
-  spaces = record { is = 1; space = 20; cspace = 30; root = 40 };
+  budget = Some 1;
+  spaces = Some (record { space = 20; cspace = 30; root = 40 });
   context = context;
   results = results;
   ticks = ticks;
@@ -74,7 +75,7 @@ idling = (plan 0 (kill 0 1 board).after).after
 abbrev pub counted : (ticks switches : ℕ) → Board
 counted ticks switches = record {
   registry = board.registry;
-  threads = record { id = 7; it = at_work 3 0 0 fresh_context (told 0 0 0) ticks } ∷ record { id = idle; it = fresh ready no_budget_id } ∷ [];
+  threads = record { id = 7; it = at_work Running fresh_context (told 0 0 0) ticks } ∷ record { id = idle; it = fresh Ready None } ∷ [];
   queue = [];
   current = 7;
   switches = switches;
@@ -93,7 +94,7 @@ abbrev pub crowd : ℕ → Board
 crowd zero = board
 crowd (suc n) = (create_user_thread (101 + n) 1 true (crowd n)).after
 
-abbrev pub state_of : Board → ℕ → ℕ
+abbrev pub state_of : Board → ℕ → State
 state_of b i = (thread b.threads i).state
 
 -- what f gives for each of 0 to 3, and 0 to 6
@@ -130,10 +131,10 @@ pub record Limits : Type 0 where
   -- "(a new thread's budget id is not looked up)"
   pub no_budget : (create_user_thread 7 99 true board).number ≡ 0
   -- "A thread whose budget id names no live budget is passed over"
-  pub passed_over : ((plan 0 (start 7 0 0 0 fresh_context (create_user_thread 7 99 true board).after).after).value ≡ some no_switch)
+  pub passed_over : ((plan 0 (start 7 0 0 0 fresh_context (create_user_thread 7 99 true board).after).after).value ≡ Some no_switch)
       × ((plan 0 (start 7 0 0 0 fresh_context (create_user_thread 7 99 true board).after).after).after.queue ≡ 7 ∷ [])
   -- "For a missing id .. `is_blocked_on` say no"
-  pub missing_blocked : (is_blocked_on 9 5 3 board).value ≡ some (is_blocked false)
+  pub missing_blocked : (is_blocked_on 9 5 3 board).value ≡ Some (is_blocked false)
   -- "8. Is a started thread Inactive, a woken one Blocked?" Thread 7 is Inactive, Ready, Running and Blocked
   pub starts : (start 7 0 0 0 fresh_context made).number ∷ (start 7 0 0 0 fresh_context started).number ∷ (start 7 0 0 0 fresh_context running).number
       ∷ (start 7 0 0 0 fresh_context asleep).number ∷ []
@@ -147,26 +148,25 @@ pub record Limits : Type 0 where
       ≡ 0 ∷ 8 ∷ 8 ∷ 8 ∷ []
   -- "A yes or no stands in for `KernelStack::new`": "14. Is the backing there?"
   pub no_stack : (create_user_thread 7 1 false board).number ≡ 14
-  -- "state (Inactive, Ready, Running, Blocked, Dead)": 1 to 5
-  pub states : state_of made 7 ∷ state_of started 7 ∷ state_of running 7 ∷ state_of asleep 7 ∷ state_of (kill 7 1 running).after 7 ∷ [] ≡ 1 ∷ 2 ∷ 3 ∷ 4 ∷ 5 ∷ []
+  -- "state (Inactive, Ready, Running, Blocked, Dead)"
+  pub states : state_of made 7 ∷ state_of started 7 ∷ state_of running 7 ∷ state_of asleep 7 ∷ state_of (kill 7 1 running).after 7 ∷ [] ≡ Inactive ∷ Ready ∷ Running ∷ Blocked (Sleep 3) ∷ Dead ∷ []
   -- "Opening: thread 0 Running and current; idle .. Ready, in no queue; neither has a budget"
-  pub opened : (state_of board 0 ≡ 3) × (state_of board 18_446_744_073_709_551_615 ≡ 2) × (board.current ≡ 0) × (board.queue ≡ [])
-      × ((thread board.threads 0).budget.is ≡ 0) × ((thread board.threads 18_446_744_073_709_551_615).budget.is ≡ 0)
+  pub opened : (state_of board 0 ≡ Running) × (state_of board 18_446_744_073_709_551_615 ≡ Ready) × (board.current ≡ 0) × (board.queue ≡ [])
+      × ((thread board.threads 0).budget ≡ None) × ((thread board.threads 18_446_744_073_709_551_615).budget ≡ None)
   -- "when fresh, `UserContext::new(0, 0)` and none or 0": flags 0x202
-  pub new_record : (read_thread 7 made).value ≡ some (record_of (record {
-    state = 1;
-    wait = record { kind = 0; number = 0 };
-    budget = record { is = 1; id = 1 };
-    spaces = record { is = 0; space = 0; cspace = 0; root = 0 };
+  pub new_record : (read_thread 7 made).value ≡ Some (record_of (record {
+    state = Inactive;
+    budget = Some 1;
+    spaces = None;
     context = record { rip = 0; rsp = 0; rflags = 514; rdi = 0; rsi = 0; cs = 0; ss = 0 };
     results = record { first = 0; second = 0; third = 0 };
     ticks = 0;
   }))
   -- "a record holds id, state .., wait, budget id or none, space, cspace, root or none, the seven `UserContext` words, three result words, run ticks": of thread 7 started,
   -- blocked after a tick, and woken
-  pub started_record : (read_thread 7 (start 7 20 30 40 words made).after).value ≡ some (record_of (at_work 2 0 0 words (told 0 0 0) 0))
-  pub blocked_record : (read_thread 7 (block_current 5 3 (tick 1 running).after).after).value ≡ some (record_of (at_work 4 5 3 fresh_context (told 0 0 0) 1))
-  pub woken_record : (read_thread 7 (wake 7 (results 1 2 3) asleep).after).value ≡ some (record_of (at_work 2 0 0 fresh_context (told 1 2 3) 0))
+  pub started_record : (read_thread 7 (start 7 20 30 40 words made).after).value ≡ Some (record_of (at_work Ready words (told 0 0 0) 0))
+  pub blocked_record : (read_thread 7 (block_current 5 3 (tick 1 running).after).after).value ≡ Some (record_of (at_work (Blocked (Sleep 3)) fresh_context (told 0 0 0) 1))
+  pub woken_record : (read_thread 7 (wake 7 (results 1 2 3) asleep).after).value ≡ Some (record_of (at_work Ready fresh_context (told 1 2 3) 0))
   -- "Tick n means n × 1,000,000 ns. It .. charges 1,000,000 ns": at tick 9 the period has not ended, at tick 10 it has
   pub tick_1 : (account_of (tick 1 running).after.registry 1).cpu_left ≡ 9_000_000
   pub tick_9 : ((account_of (tick 9 (tick 1 running).after).after.registry 1).cpu_left ≡ 8_000_000) × ((account_of (tick 9 running).after.registry 1).period_start ≡ 0)
@@ -180,26 +180,26 @@ pub record Limits : Type 0 where
   -- "3. Is the tick at most 18,446,744,073,709?"
   pub last_tick_is : last_tick ≡ 18_446_744_073_709
   -- "wakes sleepers due at or before n, by rising id, with results 0, 0, 0"
-  pub sleeps : (is_blocked_on 7 5 3 asleep).value ≡ some (is_blocked true)
-  pub not_yet : (state_of (tick 2 asleep).after 7 ≡ 4) × ((tick 2 asleep).after.queue ≡ [])
-  pub at_tick_3 : (state_of (tick 3 asleep).after 7 ≡ 2) × ((tick 3 asleep).after.queue ≡ 7 ∷ []) × ((tick 4 asleep).after.queue ≡ 7 ∷ [])
+  pub sleeps : (is_blocked_on 7 5 3 asleep).value ≡ Some (is_blocked true)
+  pub not_yet : (state_of (tick 2 asleep).after 7 ≡ Blocked (Sleep 3)) × ((tick 2 asleep).after.queue ≡ [])
+  pub at_tick_3 : (state_of (tick 3 asleep).after 7 ≡ Ready) × ((tick 3 asleep).after.queue ≡ 7 ∷ []) × ((tick 4 asleep).after.queue ≡ 7 ∷ [])
   pub results_0 : (thread (tick 3 (asleep_with 1 2 3)).after.threads 7).results ≡ told 0 0 0
   pub by_rising_id : (tick 3 all_asleep).after.queue ≡ 0 ∷ 7 ∷ 8 ∷ []
   pub only_sleepers : (tick 3 (plan 0 (block_current 4 3 running).after).after).after.queue ≡ []
   -- "A kill answers the wait it ended or none"
-  pub wait_ended : ((kill 7 1 asleep).value ≡ some (ended (some (record { kind = 5; number = 3 })))) × ((kill 7 1 started).value ≡ some (ended none))
+  pub wait_ended : ((kill 7 1 asleep).value ≡ Some (ended (Some (Sleep 3)))) × ((kill 7 1 started).value ≡ Some (ended None))
   -- "The log holds 32"
   pub most_exits_is : most_exits ≡ 32
   -- "a carve-out or CPU charge refused after a renewal leaves that renewal": a carve-out with 127 bytes free, and with 128; the same refused with another number
-  pub carving_left : (renewal_left (book.on_objects (objects.create_budget 1 0 1 25_000_000)) 12 (opening 10_000_000 127) ≡ none)
-      × (renewal_left (book.on_objects (objects.create_budget 1 0 1 25_000_000)) 12 (opening 10_000_000 128) ≡ some (1, 25_000_000))
-      × (renewal_left (book.on_objects (objects.create_budget 1 0 1 25_000_000)) 6 (opening 10_000_000 128) ≡ none)
+  pub carving_left : (renewal_left (book.on_objects (objects.create_budget 1 0 1 25_000_000)) 12 (opening 10_000_000 127) ≡ None)
+      × (renewal_left (book.on_objects (objects.create_budget 1 0 1 25_000_000)) 12 (opening 10_000_000 128) ≡ Some (1, 25_000_000))
+      × (renewal_left (book.on_objects (objects.create_budget 1 0 1 25_000_000)) 6 (opening 10_000_000 128) ≡ None)
   -- a CPU charge refused with 12, and with 7
-  pub charging_left : (renewal_left (book.on_objects (objects.charge_cpu 3 5 25_000_000)) 12 board ≡ some (3, 25_000_000))
-      × (renewal_left (book.on_objects (objects.charge_cpu 3 5 25_000_000)) 7 board ≡ none)
+  pub charging_left : (renewal_left (book.on_objects (objects.charge_cpu 3 5 25_000_000)) 12 board ≡ Some (3, 25_000_000))
+      × (renewal_left (book.on_objects (objects.charge_cpu 3 5 25_000_000)) 7 board ≡ None)
   -- other calls with 12, and with 7
-  pub nothing_left : (renewal_left (book.on_objects (objects.create 3 1 true)) 12 board ≡ none) × (renewal_left (book.on_objects (objects.charge_more 1 5)) 12 board ≡ none)
-      × (renewal_left (book.on_objects (objects.refill 1 25_000_000)) 12 board ≡ none) × (renewal_left (book.tick 25) 12 board ≡ none) × (renewal_left (book.plan 25) 7 board ≡ none)
+  pub nothing_left : (renewal_left (book.on_objects (objects.create 3 1 true)) 12 board ≡ None) × (renewal_left (book.on_objects (objects.charge_more 1 5)) 12 board ≡ None)
+      × (renewal_left (book.on_objects (objects.refill 1 25_000_000)) 12 board ≡ None) × (renewal_left (book.tick 25) 12 board ≡ None) × (renewal_left (book.plan 25) 7 board ≡ None)
   -- "Sound means: .. at most .. 128 threads; .. at most 32 exits"
   pub sound_128 : (b : Board) → sound b ≡ true → length b.threads ≤ 128
   pub sound_32 : (b : Board) → sound b ≡ true → length b.exits ≤ 32

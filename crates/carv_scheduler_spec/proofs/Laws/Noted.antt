@@ -1,7 +1,6 @@
 -- P3's ledger notes what 01's book takes, call by call, on a board, a tick's charge and a planning's renewals too; and strikes nothing out. Assumes nothing.
-use Rattle.std.specs.Prelude.{◌≡◌, refl, Bool, true, false, cond, List, [], ◌∷◌, ℕ, ◌+◌, ◌*◌, ◌≤◌, min, eqb}
+use Rattle.std.specs.Prelude.{◌≡◌, refl, Bool, true, false, cond, List, [], ◌∷◌, ℕ, ◌+◌, ◌*◌, ◌≤◌, min, eqb, Option, Some, None}
 use Rattle.std.proofs.Common.{◌∙◌, ap, arith, eqb-true}
-use Rattle.std.proofs.Math.Option.{Option, none, some}
 use Rattle.std.proofs.lemmas.Bool.{eqb-false}
 use Rattle.carv_area.specs.Table.{Row, at, pick, alter, Rising}
 use Rattle.carv_area.specs.Laws.Table
@@ -28,8 +27,8 @@ wake_all_objects (i ∷ is) b = wake_all_objects is (book.woken i b)
 -- a tick
 tick_noted : (time : ℕ) (p : Option ℕ) (k : objects.Book) (l : Ledger) (i : ℕ)
     → Accounted k (book.tick_for time p k) (charged_to l.charges i) (charged_to (note_tick time p k l).charges i) i
-tick_noted time none k l i = unmoved k i (charged_to l.charges i)
-tick_noted time (some j) k l i = test (is_live k j) (λ a. rw a charged) (λ a. rw a (unmoved k i (charged_to l.charges i)))
+tick_noted time None k l i = unmoved k i (charged_to l.charges i)
+tick_noted time (Some j) k l i = test (is_live k j) (λ a. rw a charged) (λ a. rw a (unmoved k i (charged_to l.charges i)))
   where
     f : Budget → Budget
     f b = take_cpu (min tick_ns (cpu_left (renew time b))) (renew time b)
@@ -45,19 +44,19 @@ tick_noted time (some j) k l i = test (is_live k j) (λ a. rw a charged) (λ a. 
         rw (a, ← z') (booked x x x 0 0 (charged_to l.charges i) _ refl (renews_not x) refl (omega arith) (omega arith)))
 
 -- a planning renews
-renew_for_renews : (time : ℕ) (p : Option ℕ) (k : objects.Book) (i : ℕ) (x : Budget) → at k.budgets i ≡ some x
-    → (y : Budget) × (at (book.renew_for time p k).budgets i ≡ some y) × Renews x y
-renew_for_renews time none k i x h = (x, h, renews_not x)
-renew_for_renews time (some j) k i x h = test (is_live k j)
+renew_for_renews : (time : ℕ) (p : Option ℕ) (k : objects.Book) (i : ℕ) (x : Budget) → at k.budgets i ≡ Some x
+    → (y : Budget) × (at (book.renew_for time p k).budgets i ≡ Some y) × Renews x y
+renew_for_renews time None k i x h = (x, h, renews_not x)
+renew_for_renews time (Some j) k i x h = test (is_live k j)
     (λ a. rw a (cond_at (eqb j i) refl))
     (λ a. rw a (x, h, renews_not x))
   where
-    cond_at : (b : Bool) → eqb j i ≡ b → (y : Budget) × (at (alter j (renew time) k.budgets) i ≡ some y) × Renews x y
+    cond_at : (b : Bool) → eqb j i ≡ b → (y : Budget) × (at (alter j (renew time) k.budgets) i ≡ Some y) × Renews x y
     cond_at true q = (renew time x, rw (eqb-true j i q) (Table.at_alter k.budgets i (renew time) x h), renews time x)
     cond_at false q = (x, Table.at_alter_other k.budgets j i (renew time) (eqb-false j i q) ∙ h, renews_not x)
 
-choose_renews : (time : ℕ) (m : List (Row book.Thread)) (q : List ℕ) (k : objects.Book) (i : ℕ) (x : Budget) → at k.budgets i ≡ some x
-    → (y : Budget) × (at (book.choose time m q k).objects.budgets i ≡ some y) × Renews x y
+choose_renews : (time : ℕ) (m : List (Row book.Thread)) (q : List ℕ) (k : objects.Book) (i : ℕ) (x : Budget) → at k.budgets i ≡ Some x
+    → (y : Budget) × (at (book.choose time m q k).objects.budgets i ≡ Some y) × Renews x y
 choose_renews time m [] k i x h = (x, h, renews_not x)
 choose_renews time m (j ∷ q) k i x h =
     let p = (thread m j).budget in
@@ -112,23 +111,23 @@ next_noted cs c n cpu memory h fits i =
 
 -- Nothing is struck out.
 
-tick_adds : (time : ℕ) (p : Option ℕ) (k : objects.Book) (l : Ledger) → Adds (some time) l (note_tick time p k l)
-tick_adds time none k l = adds_nothing (some time) l
-tick_adds time (some i) k l =
-    test (is_live k i) (λ a. rw a (adds_charge i (min tick_ns (cpu_left (renew time (budget_of k i)))) time l)) (λ a. rw a (adds_nothing (some time) l))
+tick_adds : (time : ℕ) (p : Option ℕ) (k : objects.Book) (l : Ledger) → Adds (Some time) l (note_tick time p k l)
+tick_adds time None k l = adds_nothing (Some time) l
+tick_adds time (Some i) k l =
+    test (is_live k i) (λ a. rw a (adds_charge i (min tick_ns (cpu_left (renew time (budget_of k i)))) time l)) (λ a. rw a (adds_nothing (Some time) l))
 
 pub note_adds : (c : Call) (n : ℕ) (k : Book) (l : Ledger) → Adds (clock c) l (note c n k l)
 note_adds (on_objects c) n k l = registry_noted.note_adds c n k.objects.next l
-note_adds (create_user_thread i budget stack) n k l = adds_nothing none l
-note_adds (start i space cspace root context) n k l = adds_nothing none l
-note_adds (block_current kind number) n k l = adds_nothing none l
-note_adds (wake i r) n k l = adds_nothing none l
-note_adds (is_blocked_on i kind number) n k l = adds_nothing none l
-note_adds (kill i cause) n k l = adds_nothing none l
+note_adds (create_user_thread i budget stack) n k l = adds_nothing None l
+note_adds (start i space cspace root context) n k l = adds_nothing None l
+note_adds (block_current kind number) n k l = adds_nothing None l
+note_adds (wake i r) n k l = adds_nothing None l
+note_adds (is_blocked_on i kind number) n k l = adds_nothing None l
+note_adds (kill i cause) n k l = adds_nothing None l
 note_adds (tick t) n k l =
-    test (eqb n 0) (λ a. rw a (tick_adds (t * tick_ns) (thread k.threads k.current).budget k.objects l)) (λ a. rw a (adds_nothing (some (t * tick_ns)) l))
-note_adds (plan t) n k l = adds_nothing (some (t * tick_ns)) l
-note_adds (read_thread i) n k l = adds_nothing none l
-note_adds read_current n k l = adds_nothing none l
-note_adds read_switches n k l = adds_nothing none l
-note_adds (exit_of i) n k l = adds_nothing none l
+    test (eqb n 0) (λ a. rw a (tick_adds (t * tick_ns) (thread k.threads k.current).budget k.objects l)) (λ a. rw a (adds_nothing (Some (t * tick_ns)) l))
+note_adds (plan t) n k l = adds_nothing (Some (t * tick_ns)) l
+note_adds (read_thread i) n k l = adds_nothing None l
+note_adds read_current n k l = adds_nothing None l
+note_adds read_switches n k l = adds_nothing None l
+note_adds (exit_of i) n k l = adds_nothing None l

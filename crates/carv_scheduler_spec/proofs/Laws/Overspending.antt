@@ -1,7 +1,6 @@
 -- P3: in every history whose clock values never fall, no period is overspent. Each call keeps the invariant of carv_objects_spec/proofs/Laws/Spending.antt. Assumes nothing.
-use Rattle.std.specs.Prelude.{◌≡◌, refl, Bool, true, false, cond, not, ◌&&◌, ◌||◌, List, [], ◌∷◌, ◌++◌, map, ℕ, ◌*◌, ◌≤◌, ◌<◌, eqb, ltb, length}
+use Rattle.std.specs.Prelude.{◌≡◌, refl, Bool, true, false, cond, not, ◌&&◌, ◌||◌, List, [], ◌∷◌, ◌++◌, map, ℕ, ◌*◌, ◌≤◌, ◌<◌, eqb, ltb, length, Option, Some, None}
 use Rattle.std.proofs.Common.{sym, ◌∙◌, ap, subst, arith, ne_eqb}
-use Rattle.std.proofs.Math.Option.{Option, none, some}
 use Rattle.carv_area.specs.Laws.Table
 use Rattle.carv_area.specs.Table.{Row, at, pick, alter}
 use Rattle.carv_area.specs.Laws.Table.{test}
@@ -20,7 +19,6 @@ use Rattle.carv_objects_spec.proofs.Laws.Spending.{after_clock}
 use Rattle.carv_objects_spec.proofs.Laws.Listed as spending
 use Rattle.carv_objects_spec.proofs.Laws.Listed.{Falling, InOrder}
 use Rattle.carv_objects_spec.proofs.Laws.LedgerWithin.{under_is_within}
-use Rattle.carv_scheduler_spec.specs.declared.BudgetId.{BudgetId}
 use Rattle.carv_scheduler_spec.specs.declared.Results.{Results}
 use Rattle.carv_scheduler_spec.specs.declared.Thread.{Thread}
 use Rattle.carv_scheduler_spec.specs.Scheduler as scheduler
@@ -31,7 +29,7 @@ use Rattle.carv_scheduler_spec.proofs.Laws.Reading.{neither}
 use Rattle.carv_scheduler_spec.specs.Book as book
 use Rattle.carv_scheduler_spec.specs.Book.{Book, Call, on_objects, create_user_thread, start, block_current, wake, is_blocked_on, kill, tick, plan, read_thread, read_current, read_switches, exit_of, write}
 use Rattle.carv_scheduler_spec.specs.Runs.{run, after, Numbered, numbers, Fits, AllFit}
-use Rattle.carv_scheduler_spec.proofs.Laws.Following.{FollowsBoard, budget_named}
+use Rattle.carv_scheduler_spec.proofs.Laws.Following.{FollowsBoard}
 use Rattle.carv_scheduler_spec.proofs.Laws.History.{Stands, kept, write_follows, opening_stands}
 use Rattle.carv_scheduler_spec.specs.Demand3.{board_after}
 use Rattle.carv_scheduler_spec.specs.Ledger.{note_tick, note, note_all, ledger_after, clock, moving_clock, ClockNeverFalls, MovingClockNeverFalls, EverLive}
@@ -53,23 +51,23 @@ wake_all_left : (is : List ℕ) (b : Board) → (scheduler.wake_all is b).regist
 wake_all_left [] b = refl
 wake_all_left (i ∷ is) b = wake_all_left is (scheduler.wake i (results 0 0 0) b).after ∙ wake_left i (results 0 0 0) b
 
-charge_tick_in_order : (time : ℕ) (p : BudgetId) (r : Registry) (k : objects.Book) (l : Ledger) → registry_facts.Sound r → registry_history.FollowsRegistry r k → InOrder r l time
-    → InOrder (scheduler.charge_tick time p r) (note_tick time (budget_named p) k l) time
-charge_tick_in_order time p r k l s F O = test (eqb p.is 0) (λ a. rw a O)
-    (λ a. rw a (test (is_budget r p.id)
-    (λ live. let (e, B) = registry_calls.live_budget r p.id live in
+charge_tick_in_order : (time : ℕ) (p : Option ℕ) (r : Registry) (k : objects.Book) (l : Ledger) → registry_facts.Sound r → registry_history.FollowsRegistry r k → InOrder r l time
+    → InOrder (scheduler.charge_tick time p r) (note_tick time p k l) time
+charge_tick_in_order time None r k l s F O = O
+charge_tick_in_order time (Some p) r k l s F O = test (is_budget r p)
+    (λ live. let (e, B) = registry_calls.live_budget r p live in
     let sound = subst (λ (x : Entry). account.sound x.account ≡ true) (sym B.read) (registry_calls.budget_sound s B) in
-    let G = registry_history.renew_agrees (account_of r p.id) (objects.budget_of k p.id) time sound (registry_history.budget_agrees r k F p.id live) in
-    let q : (account.renew (account_of r p.id) time).cpu_left ≡ objects.cpu_left (objects.renew time (objects.budget_of k p.id)) = omega (arith, G.left) in
-    let O' = spending.charge_most_in_order r l p.id tick_ns time s live O in
-    rw (registry_history.live_same r k F p.id, live, ← q) (rw live at O'))
-    (λ live. rw (registry_history.live_same r k F p.id, live) O)))
+    let G = registry_history.renew_agrees (account_of r p) (objects.budget_of k p) time sound (registry_history.budget_agrees r k F p live) in
+    let q : (account.renew (account_of r p) time).cpu_left ≡ objects.cpu_left (objects.renew time (objects.budget_of k p)) = omega (arith, G.left) in
+    let O' = spending.charge_most_in_order r l p tick_ns time s live O in
+    rw (registry_history.live_same r k F p, live, ← q) (rw live at O'))
+    (λ live. rw (registry_history.live_same r k F p, live) O)
 
 -- A planning.
 
-renew_for_in_order : (time : ℕ) (p : BudgetId) (r : Registry) (l : Ledger) → registry_facts.Sound r → InOrder r l time → InOrder (scheduler.renew_for time p r) l time
-renew_for_in_order time p r l s O = test (eqb p.is 0) (λ a. rw a O)
-    (λ a. rw a (registry_calls.refill_cases (λ x. InOrder x.after l time) p.id time r (λ q h. O) λ e B. spending.renew_in_order r l p.id time e s B O))
+renew_for_in_order : (time : ℕ) (p : Option ℕ) (r : Registry) (l : Ledger) → registry_facts.Sound r → InOrder r l time → InOrder (scheduler.renew_for time p r) l time
+renew_for_in_order time None r l s O = O
+renew_for_in_order time (Some p) r l s O = registry_calls.refill_cases (λ x. InOrder x.after l time) p time r (λ q h. O) λ e B. spending.renew_in_order r l p time e s B O
 
 choose_in_order : (time : ℕ) (m : List (Row Thread)) (q : List ℕ) (r : Registry) (l : Ledger) → registry_facts.Sound r → InOrder r l time
     → InOrder (scheduler.choose time m q r).registry l time
@@ -136,8 +134,8 @@ call_in_order (exit_of i) b k l T s F h O = O
 
 -- clock values that never fall, the first of them and the others
 first_of : (T : ℕ) (o : Option ℕ) (ts : List (Option ℕ)) → NeverFall T (o ∷ ts) → (T ≤ after_clock T o) × NeverFall (after_clock T o) ts
-first_of T none ts h = (omega arith, h)
-first_of T (some t) ts h = h
+first_of T None ts h = (omega arith, h)
+first_of T (Some t) ts h = h
 
 -- Lists of calls.
 
@@ -207,8 +205,8 @@ all_extend (n ∷ ns) k l =
     (all_extend ns (write n.call n.number k) (note n.call n.number k l))
 
 -- so a budget's row stays the first of its id, and what it is under stays
-module _ (m : List (Row Carved)) (i : ℕ) (c : Carved) (here : at m i ≡ some c) where
-  still_there : (m' : List (Row Carved)) → Extends m m' → Falling m' → at m' i ≡ some c
+module _ (m : List (Row Carved)) (i : ℕ) (c : Carved) (here : at m i ≡ Some c) where
+  still_there : (m' : List (Row Carved)) → Extends m m' → Falling m' → at m' i ≡ Some c
   still_there _ as_it_was f = here
   still_there _ (one_more x m' e) f =
       let there = still_there m' e f.1 in
@@ -235,7 +233,7 @@ ever_live [] rest b k l T fits rise S O i live =
     record {
       allowed = λ p. subst (λ (x : Entry). spent final p i ≤ x.account.cpu_allowance) (sym B.read)
           (Table.at_all (λ j x. (p : ℕ) → spent final p j ≤ x.allowance) final.budgets end.balanced.settled i _ there p);
-      listed = there ∙ ap (λ (x : Entry). some (record { parent = x.payer; allowance = x.account.cpu_allowance })) (sym B.read);
+      listed = there ∙ ap (λ (x : Entry). Some (record { parent = x.payer; allowance = x.account.cpu_allowance })) (sym B.read);
       below = λ c. still_under l.budgets i _ here c final.budgets more end.falling
           ∙ under_is_within r S.sound.registry l.budgets O.falling O.listed c i i e (omega arith) B;
     }
@@ -268,19 +266,19 @@ module _ (cpu memory : ℕ) (h : cpu ≤ period) where
 
 earlier_clock : (T t : ℕ) (ts : List (Option ℕ)) → T ≤ t → NeverFall t ts → NeverFall T ts
 earlier_clock T t [] h f = tt
-earlier_clock T t (none ∷ ts) h f = earlier_clock T t ts h f
-earlier_clock T t (some x ∷ ts) h f = (omega (arith, f.0), f.1)
+earlier_clock T t (None ∷ ts) h f = earlier_clock T t ts h f
+earlier_clock T t (Some x ∷ ts) h f = (omega (arith, f.0), f.1)
 
 fewer_clocks : (T : ℕ) (ns : List Numbered) → NeverFall T (map (λ (n : Numbered). clock n.call) ns) → NeverFall T (map moving_clock ns)
 fewer_clocks T [] f = tt
 fewer_clocks T (n ∷ ns) f = by (clock n.call) (eqb n.number 0 || eqb n.number 12) (λ t. fewer_clocks t ns) f
   where
     by : (o : Option ℕ) (b : Bool) → ((t : ℕ) → NeverFall t (map (λ (n : Numbered). clock n.call) ns) → NeverFall t (map moving_clock ns))
-        → NeverFall T (o ∷ map (λ (n : Numbered). clock n.call) ns) → NeverFall T (cond b o none ∷ map moving_clock ns)
-    by none true go f = go T f
-    by none false go f = go T f
-    by (some t) true go f = (f.0, go t f.1)
-    by (some t) false go f = earlier_clock T t (map moving_clock ns) f.0 (go t f.1)
+        → NeverFall T (o ∷ map (λ (n : Numbered). clock n.call) ns) → NeverFall T (cond b o None ∷ map moving_clock ns)
+    by None true go f = go T f
+    by None false go f = go T f
+    by (Some t) true go f = (f.0, go t f.1)
+    by (Some t) false go f = earlier_clock T t (map moving_clock ns) f.0 (go t f.1)
 
 pub clock_moves : (ns : List Numbered) → ClockNeverFalls ns → MovingClockNeverFalls ns
 clock_moves ns = fewer_clocks 0 ns

@@ -1,14 +1,14 @@
 -- What is read of the threads after their table is written, and of the queue after an id joins or leaves it. Assumes nothing.
-use Rattle.std.specs.Prelude.{◌≡◌, refl, Bool, true, false, cond, not, ◌&&◌, ◌||◌, List, [], ◌∷◌, ℕ, suc, ◌<◌, eqb}
+use Rattle.std.specs.Prelude.{◌≡◌, refl, Bool, true, false, cond, not, ◌&&◌, ◌||◌, List, [], ◌∷◌, ℕ, suc, ◌<◌, eqb, Option, Some, None}
 use Rattle.std.proofs.Common.{sym, ◌∙◌, ap, true≢false, arith, eqb-true, eq-eqb, ne_eqb}
 use Rattle.std.proofs.lemmas.Bool.{false≢true, eqb-false, not-true}
-use Rattle.std.proofs.Math.Option.{Option, none, some}
 use Rattle.carv_area.specs.Laws.Table
 use Rattle.carv_area.specs.Table.{Row, at, alter, erase, put, pick, Rising}
 use Rattle.carv_area.specs.Laws.Table.{test}
 use Rattle.carv_budget.proofs.Laws.Account.{first, second}
 use Rattle.carv_scheduler_spec.specs.declared.Thread.{Thread}
-use Rattle.carv_scheduler_spec.specs.Scheduler.{inactive, no_budget_id, fresh, or_fresh, found, thread, has, join, without}
+use Rattle.carv_scheduler_spec.specs.declared.State.TheVariants.{Inactive}
+use Rattle.carv_scheduler_spec.specs.Scheduler.{fresh, or_fresh, found, thread, has, join, without}
 use Rattle.carv_scheduler_spec.specs.Sound.{member, distinct}
 
 -- Tests.
@@ -36,19 +36,19 @@ eqb_turned i j h = ne_eqb j i (λ q. eqb-false i j h (sym q))
 
 module _ (m : List (Row Thread)) where
   -- a thread that is there has its record, and one that is not reads as a fresh one
-  pub there : (i : ℕ) → has m i ≡ true → at m i ≡ some (thread m i)
+  pub there : (i : ℕ) → has m i ≡ true → at m i ≡ Some (thread m i)
   there i h = go (at m i) refl
     where
-      go : (o : Option Thread) → at m i ≡ o → at m i ≡ some (thread m i)
-      go none q = absurd (false≢true (sym (ap found q) ∙ h))
-      go (some t) q = q ∙ sym (ap (λ (o : Option Thread). some (or_fresh o)) q)
+      go : (o : Option Thread) → at m i ≡ o → at m i ≡ Some (thread m i)
+      go None q = absurd (false≢true (sym (ap found q) ∙ h))
+      go (Some t) q = q ∙ sym (ap (λ (o : Option Thread). Some (or_fresh o)) q)
 
-  pub absent : (i : ℕ) → has m i ≡ false → thread m i ≡ fresh inactive no_budget_id
+  pub absent : (i : ℕ) → has m i ≡ false → thread m i ≡ fresh Inactive None
   absent i h = go (at m i) refl
     where
-      go : (o : Option Thread) → at m i ≡ o → thread m i ≡ fresh inactive no_budget_id
-      go none q = ap or_fresh q
-      go (some t) q = absurd (true≢false (sym (ap found q) ∙ h))
+      go : (o : Option Thread) → at m i ≡ o → thread m i ≡ fresh Inactive None
+      go None q = ap or_fresh q
+      go (Some t) q = absurd (true≢false (sym (ap found q) ∙ h))
 
   -- after thread i goes by f
   module _ (i : ℕ) (f : Thread → Thread) (h : has m i ≡ true) where
@@ -67,7 +67,7 @@ module _ (m : List (Row Thread)) where
 
   -- after thread i is gone
   module _ (i l n : ℕ) (u : Rising l n m) where
-    pub thread_erase : (j : ℕ) → thread (erase i m) j ≡ cond (eqb i j) (fresh inactive no_budget_id) (thread m j)
+    pub thread_erase : (j : ℕ) → thread (erase i m) j ≡ cond (eqb i j) (fresh Inactive None) (thread m j)
     thread_erase j = test (eqb i j)
         (λ a. rw (← eqb-true i j a, eq-eqb i i refl) (ap or_fresh (Table.at_erase m l n i u)))
         (λ a. rw a (ap or_fresh (Table.at_erase_other m i j (eqb-false i j a))))

@@ -1,19 +1,22 @@
 -- Demand 3 sentence by sentence: each theorem is one clause of the demand, with the fields and numbers written out, and is drawn from `demand3`. A claim that said less
 -- would be refused here. Assumes nothing.
-use Rattle.std.specs.Prelude.{◌≡◌, refl, Bool, true, false, cond, ◌&&◌, List, [], ◌∷◌, ◌++◌, ℕ, ◌+◌, ◌-◌, ◌*◌, ◌≤◌, eqb, ltb, leb}
+use Rattle.std.specs.Prelude.{◌≡◌, refl, Bool, true, false, cond, ◌&&◌, List, [], ◌∷◌, ◌++◌, ℕ, ◌+◌, ◌-◌, ◌*◌, ◌≤◌, eqb, ltb, leb, Option, Some, None, option_map}
 use Rattle.std.proofs.Common.{sym, ap, subst, ◌∙◌, arith, eqb-true, eq-eqb, leb-true, leb-false, le-leb}
 use Rattle.std.proofs.lemmas.Bool.{false≢true, lt-leb}
-use Rattle.std.proofs.Math.Option.{Option, none, some}
 use Rattle.carv_area.specs.Table.{Row, at}
 use Rattle.carv_area.specs.Laws.Table.{test}
 use Rattle.carv_budget.specs.declared.Account.{Account}
+use Rattle.carv_objects_spec.specs.declared.kind.Kind.TheVariants as kinds
 use Rattle.carv_objects_spec.specs.declared.Entry.{Entry}
 use Rattle.carv_objects_spec.specs.Registry.{account_of}
 use Rattle.carv_objects_spec.specs.Book as objects
 use Rattle.carv_objects_spec.specs.Book.{Budget, budget_of}
 use Rattle.carv_objects_spec.proofs.Laws.Sentences.{Line, SameLine, SameFigures, Live, line_told, same_line_told, same_line_shown, same_figures_told, same_figures_shown, is_live_budget, read_told, live_in_book, live_in_registry}
+use Rattle.carv_scheduler_spec.specs.declared.State.{State}
+use Rattle.carv_scheduler_spec.specs.declared.State.TheVariants.{Inactive, Ready, Running, Blocked, Dead}
+use Rattle.carv_scheduler_spec.specs.declared.Spaces.{Spaces}
 use Rattle.carv_scheduler_spec.specs.declared.Thread.{Thread}
-use Rattle.carv_scheduler_spec.specs.Scheduler.{Board, BoardReply, no_switch, switch, or_fresh, opening}
+use Rattle.carv_scheduler_spec.specs.Scheduler.{Board, BoardReply, running, is, no_switch, switch, or_fresh, opening}
 use Rattle.carv_scheduler_spec.specs.Sound.{member}
 use Rattle.carv_scheduler_spec.specs.Book as book
 use Rattle.carv_scheduler_spec.specs.Book.{Book, Call, plan, put_back}
@@ -37,11 +40,11 @@ book_opened cs cpu memory = refl
 
 -- "Each live budget's line is the book's four figures", and the live budgets are the same. `Line` has the fields written out.
 module _ (cs : List Call) (cpu memory : ℕ) (h : cpu ≤ 10_000_000) (fits : AllFit cs) (i : ℕ) where
-  pub budget_in_book : (e : Entry) → at (after cs (opening cpu memory)).registry.rows i ≡ some e → e.kind ≡ 6
+  pub budget_in_book : (e : Entry) → at (after cs (opening cpu memory)).registry.rows i ≡ Some e → e.kind ≡ kinds.Budget
       → (b : Budget) × Live (after cs (opening cpu memory)).registry (book_after cs cpu memory).objects i e.account b
   budget_in_book = live_in_book (after cs (opening cpu memory)).registry (book_after cs cpu memory).objects i ((demand3 cs cpu memory h fits).live i)
 
-  pub budget_on_board : (b : Budget) → at (book_after cs cpu memory).objects.budgets i ≡ some b
+  pub budget_on_board : (b : Budget) → at (book_after cs cpu memory).objects.budgets i ≡ Some b
       → (a : Account) × Live (after cs (opening cpu memory)).registry (book_after cs cpu memory).objects i a b
   budget_on_board = live_in_registry (after cs (opening cpu memory)).registry (book_after cs cpu memory).objects i ((demand3 cs cpu memory h fits).live i)
 
@@ -76,17 +79,17 @@ left_at time b =
 
 -- "a thread has time left: no budget, or a live one whose fourth figure is above 0"
 abbrev pub budget_left : (time : ℕ) → Option Budget → Bool
-budget_left time none = false
-budget_left time (some b) = ltb 0 (left_at time b)
+budget_left time None = false
+budget_left time (Some b) = ltb 0 (left_at time b)
 
 abbrev pub id_left : (time : ℕ) → List (Row Budget) → Option ℕ → Bool
-id_left time m none = true
-id_left time m (some c) = budget_left time (at m c)
+id_left time m None = true
+id_left time m (Some c) = budget_left time (at m c)
 
 -- an id without a thread, which no queue holds, reads as one without a budget
 abbrev pub thread_left : (time : ℕ) → List (Row Budget) → Option book.Thread → Bool
-thread_left time m none = true
-thread_left time m (some t) = id_left time m t.budget
+thread_left time m None = true
+thread_left time m (Some t) = id_left time m t.budget
 
 abbrev pub has_left : (time : ℕ) → Book → ℕ → Bool
 has_left time k i = thread_left time k.objects.budgets (at k.threads i)
@@ -105,20 +108,20 @@ renew_left time b = test (leb (b.start + 10_000_000) time)
     (λ s. rw (n, s)))
 
 id_left_is : (time : ℕ) (o : objects.Book) (p : Option ℕ) → book.has_time p (book.renew_for time p o) ≡ id_left time o.budgets p
-id_left_is time o none = refl
-id_left_is time o (some c) = time_direct time c o ∙ go (at o.budgets c)
+id_left_is time o None = refl
+id_left_is time o (Some c) = time_direct time c o ∙ go (at o.budgets c)
   where
     go : (x : Option Budget) → (objects.is_some x && ltb 0 (objects.cpu_left (objects.renew time (objects.or_no_budget x)))) ≡ budget_left time x
-    go none = refl
-    go (some b) = ap (λ (n : ℕ). ltb 0 n) (renew_left time b)
+    go None = refl
+    go (Some b) = ap (λ (n : ℕ). ltb 0 n) (renew_left time b)
 
 left_is : (time : ℕ) (k : Book) (i : ℕ) → time_left time k i ≡ has_left time k i
 left_is time k i = go (at k.threads i)
   where
     go : (t : Option book.Thread)
         → book.has_time (book.or_none t).budget (book.renew_for time (book.or_none t).budget k.objects) ≡ thread_left time k.objects.budgets t
-    go none = refl
-    go (some t) = id_left_is time k.objects t.budget
+    go None = refl
+    go (Some t) = id_left_is time k.objects t.budget
 
 queue_is : (k : Book) → put_back k ≡ queue_of k
 queue_is k = test (eqb k.current 18_446_744_073_709_551_615) (λ a. rw a) (λ a. rw a)
@@ -149,6 +152,13 @@ old cs cpu memory = (after cs (opening cpu memory)).current
 abbrev pub new : List Call → (cpu memory n : ℕ) → ℕ
 new cs cpu memory n = (planning cs cpu memory n).after.current
 
+runs_only : (x : State) → running x ≡ true → x ≡ Running
+runs_only Running h = refl
+runs_only Inactive h = absurd (false≢true h)
+runs_only Ready h = absurd (false≢true h)
+runs_only (Blocked w) h = absurd (false≢true h)
+runs_only Dead h = absurd (false≢true h)
+
 -- Wherever a list has a planning, here after `cs`, that is accepted.
 module _ (cs rest : List Call) (cpu memory n : ℕ) (h : cpu ≤ 10_000_000) (fits : AllFit (cs ++ (plan n ∷ rest))) (accepted : (planning cs cpu memory n).number ≡ 0) where
   planned : Planned n (book_after cs cpu memory) (planning cs cpu memory n)
@@ -167,16 +177,13 @@ module _ (cs rest : List Call) (cpu memory n : ℕ) (h : cpu ≤ 10_000_000) (fi
   pub book_runs : new cs cpu memory n ≡ (book.write (plan n) 0 (book_after cs cpu memory)).current
   book_runs = planned.chosen
 
-  pub runs : (t : Thread) × (at (planning cs cpu memory n).after.threads (new cs cpu memory n) ≡ some t) × (t.state ≡ 3)
+  pub runs : (t : Thread) × (at (planning cs cpu memory n).after.threads (new cs cpu memory n) ≡ Some t) × (t.state ≡ Running)
   runs = go (at (planning cs cpu memory n).after.threads (new cs cpu memory n)) refl
     where
-      in_state_3 : Option Thread → Bool
-      in_state_3 o = eqb (or_fresh o).state 3
-
       go : (o : Option Thread) → at (planning cs cpu memory n).after.threads (new cs cpu memory n) ≡ o
-          → (t : Thread) × (at (planning cs cpu memory n).after.threads (new cs cpu memory n) ≡ some t) × (t.state ≡ 3)
-      go none q = absurd (false≢true (sym (ap in_state_3 q) ∙ planned.runs))
-      go (some t) q = (t, q, eqb-true t.state 3 (sym (ap in_state_3 q) ∙ planned.runs))
+          → (t : Thread) × (at (planning cs cpu memory n).after.threads (new cs cpu memory n) ≡ Some t) × (t.state ≡ Running)
+      go None q = absurd (false≢true (sym (ap (λ (o : Option Thread). is running (or_fresh o)) q) ∙ planned.runs))
+      go (Some t) q = (t, q, runs_only t.state (sym (ap (λ (o : Option Thread). is running (or_fresh o)) q) ∙ planned.runs))
 
   -- "each accepted planning runs the thread ready longest among those with time left": it stands in the queue and has time left, and none in front of it has
   pub ready_longest : (new cs cpu memory n ≡ 18_446_744_073_709_551_615 → ⊥)
@@ -205,19 +212,19 @@ module _ (cs rest : List Call) (cpu memory n : ℕ) (h : cpu ≤ 10_000_000) (fi
       (subst (NoneHasLeft (n * 1_000_000) (book_after cs cpu memory)) (sym (queue_is (book_after cs cpu memory))) N))
 
   -- "answers "no switch" exactly when the one run was current already"
-  pub no_switch_where_same : new cs cpu memory n ≡ old cs cpu memory → (planning cs cpu memory n).value ≡ some no_switch
+  pub no_switch_where_same : new cs cpu memory n ≡ old cs cpu memory → (planning cs cpu memory n).value ≡ Some no_switch
   no_switch_where_same q = planned.stays (q ∙ same_current)
 
-  pub same_where_no_switch : (planning cs cpu memory n).value ≡ some no_switch → new cs cpu memory n ≡ old cs cpu memory
+  pub same_where_no_switch : (planning cs cpu memory n).value ≡ Some no_switch → new cs cpu memory n ≡ old cs cpu memory
   same_where_no_switch q = planned.stayed q ∙ sym same_current
 
   -- "else a switch from the old id to the new", with the new thread's root, or the kernel's where it has none
-  pub else_a_switch : (new cs cpu memory n ≡ old cs cpu memory → ⊥) → (t : Thread) → at (planning cs cpu memory n).after.threads (new cs cpu memory n) ≡ some t
-      → (planning cs cpu memory n).value ≡ some (switch (old cs cpu memory) (new cs cpu memory n) (cond (eqb t.spaces.is 0) none (some t.spaces.root)))
+  pub else_a_switch : (new cs cpu memory n ≡ old cs cpu memory → ⊥) → (t : Thread) → at (planning cs cpu memory n).after.threads (new cs cpu memory n) ≡ Some t
+      → (planning cs cpu memory n).value ≡ Some (switch (old cs cpu memory) (new cs cpu memory n) (option_map (λ (s : Spaces). s.root) t.spaces))
   else_a_switch d t here =
       planned.switches (λ q. d (q ∙ sym same_current))
-      ∙ ap (λ (c : ℕ). some (switch c (new cs cpu memory n) (root (at (planning cs cpu memory n).after.threads (new cs cpu memory n))))) (sym same_current)
-      ∙ ap (λ (o : Option Thread). some (switch (old cs cpu memory) (new cs cpu memory n) (root o))) here
+      ∙ ap (λ (c : ℕ). Some (switch c (new cs cpu memory n) (root (at (planning cs cpu memory n).after.threads (new cs cpu memory n))))) (sym same_current)
+      ∙ ap (λ (o : Option Thread). Some (switch (old cs cpu memory) (new cs cpu memory n) (root o))) here
     where
       root : Option Thread → Option ℕ
-      root o = cond (eqb (or_fresh o).spaces.is 0) none (some (or_fresh o).spaces.root)
+      root o = option_map (λ (s : Spaces). s.root) (or_fresh o).spaces

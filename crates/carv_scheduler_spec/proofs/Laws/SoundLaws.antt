@@ -1,8 +1,7 @@
 -- The test of specs/Sound.antt and the facts of proofs/Laws/SoundFacts.antt say the same. Assumes nothing.
-use Rattle.std.specs.Prelude.{◌≡◌, refl, Bool, true, false, cond, not, ◌&&◌, ◌||◌, List, [], ◌∷◌, ℕ, ◌^◌, eqb, leb, length}
-use Rattle.std.proofs.Common.{sym, ◌∙◌, ap, subst, eqb-true, eq-eqb, ne_eqb, leb-true, le-leb}
-use Rattle.std.proofs.lemmas.Bool.{false≢true, eqb-false, not-true}
-use Rattle.std.proofs.Math.Option.{some}
+use Rattle.std.specs.Prelude.{◌≡◌, refl, Bool, true, false, not, ◌&&◌, ◌||◌, List, [], ◌∷◌, ℕ, ◌^◌, eqb, length, is_none, Some, None}
+use Rattle.std.proofs.Common.{sym, ◌∙◌, ap, subst, eqb-true, eq-eqb, leb-true, le-leb}
+use Rattle.std.proofs.lemmas.Bool.{false≢true, not-true}
 use Rattle.carv_area.specs.Laws.Table
 use Rattle.carv_area.specs.Table.{Row, at}
 use Rattle.carv_area.specs.Laws.Table.{test}
@@ -10,12 +9,11 @@ use Rattle.carv_budget.proofs.Laws.Account.{first, second}
 use Rattle.carv_objects_spec.specs.Sound.{all}
 use Rattle.carv_objects_spec.proofs.Laws.SoundLaws as objects
 use Rattle.carv_objects_spec.proofs.Laws.SoundLaws.{Truths, all_told, all_shown, either, every_told, every_shown, rises_told, rises_shown}
-use Rattle.carv_scheduler_spec.specs.declared.Wait.{Wait}
-use Rattle.carv_scheduler_spec.specs.declared.Spaces.{Spaces}
+use Rattle.carv_scheduler_spec.specs.declared.State.TheVariants.{Inactive}
 use Rattle.carv_scheduler_spec.specs.declared.Thread.{Thread}
-use Rattle.carv_scheduler_spec.specs.Scheduler.{Board, idle, inactive, ready, running, blocked, dead, is, wait_listed, no_wait, no_budget_id, no_spaces, fresh, or_fresh, found, thread, has}
+use Rattle.carv_scheduler_spec.specs.Scheduler.{Board, idle, inactive, ready, running, dead, is, fresh, or_fresh, found, thread, has}
 use Rattle.carv_scheduler_spec.specs.Sound.{member, each, implies, same, unpaid, thread_tests, board_tests, sound}
-use Rattle.carv_scheduler_spec.proofs.Laws.SoundFacts.{SoundThread, Sound}
+use Rattle.carv_scheduler_spec.proofs.Laws.SoundFacts.{Sound}
 use Rattle.carv_scheduler_spec.proofs.Laws.Reading.{or_true, there, absent}
 
 pub implied : (a b : Bool) → implies a b ≡ true → a ≡ true → b ≡ true
@@ -45,55 +43,8 @@ pub each_shown : (p : ℕ → Bool) (q : List ℕ) → ((i : ℕ) → member i q
 each_shown p [] h = refl
 each_shown p (j ∷ q) h = rw (h j (rw (eq-eqb j j refl)), each_shown p q (λ i m. h i (or_true (eqb j i) m)))
 
--- What is not there is 0.
-
-wait_told : (w : Wait) → (eqb w.kind 0 && eqb w.number 0) ≡ true → w ≡ no_wait
-wait_told w h =
-    let x = eqb-true w.kind 0 (first (eqb w.kind 0) (eqb w.number 0) h) in
-    let y = eqb-true w.number 0 (second (eqb w.kind 0) (eqb w.number 0) h) in
-    λ i. record { kind = x i; number = y i }
-
-space_told : (s : Spaces) → s.is ≡ 0 → (eqb s.space 0 && (eqb s.cspace 0 && eqb s.root 0)) ≡ true → s ≡ no_spaces
-space_told s q h =
-    let k = second (eqb s.space 0) (eqb s.cspace 0 && eqb s.root 0) h in
-    let x = eqb-true s.space 0 (first (eqb s.space 0) (eqb s.cspace 0 && eqb s.root 0) h) in
-    let y = eqb-true s.cspace 0 (first (eqb s.cspace 0) (eqb s.root 0) k) in
-    let z = eqb-true s.root 0 (second (eqb s.cspace 0) (eqb s.root 0) k) in
-    λ i. record { is = q i; space = x i; cspace = y i; root = z i }
-
--- The codes of thread i, t.
-
-thread_told : (b : Board) (i : ℕ) (t : Thread) → Truths (thread_tests b i t) → SoundThread t
-thread_told b i t (state, (waits, (budget, (spaces, rest)))) = record {
-  state_low = leb-true 1 t.state (first (leb 1 t.state) (leb t.state 5) state);
-  state_high = leb-true t.state 5 (second (leb 1 t.state) (leb t.state 5) state);
-  waits = λ a. rw a at waits;
-  waits_not = λ a. wait_told t.wait (rw a at waits);
-  budget = λ n. eqb-true t.budget.is 1 (rw (ne_eqb t.budget.is 0 n) at budget);
-  no_budget = λ q. (let z = eqb-true t.budget.id 0 (rw (eq-eqb t.budget.is 0 q) at budget) in λ j. record { is = q j; id = z j });
-  spaces = λ n. eqb-true t.spaces.is 1 (rw (ne_eqb t.spaces.is 0 n) at spaces);
-  no_spaces = λ q. space_told t.spaces q (rw (eq-eqb t.spaces.is 0 q) at spaces);
-}
-
-state_shown : (t : Thread) → SoundThread t → (leb 1 t.state && leb t.state 5) ≡ true
-state_shown t s = rw (le-leb 1 t.state s.state_low, le-leb t.state 5 s.state_high)
-
-waits_shown : (t : Thread) → SoundThread t → cond (is blocked t) (wait_listed t.wait.kind) (eqb t.wait.kind 0 && eqb t.wait.number 0) ≡ true
-waits_shown t s = test (is blocked t) (λ a. rw a (s.waits a)) (λ a. rw (a, s.waits_not a))
-
-budget_shown : (t : Thread) → SoundThread t → cond (eqb t.budget.is 0) (eqb t.budget.id 0) (eqb t.budget.is 1) ≡ true
-budget_shown t s = test (eqb t.budget.is 0)
-    (λ a. rw (s.no_budget (eqb-true t.budget.is 0 a)))
-    (λ a. rw a (eq-eqb t.budget.is 1 (s.budget (eqb-false t.budget.is 0 a))))
-
-spaces_shown : (t : Thread) → SoundThread t
-    → cond (eqb t.spaces.is 0) (eqb t.spaces.space 0 && (eqb t.spaces.cspace 0 && eqb t.spaces.root 0)) (eqb t.spaces.is 1) ≡ true
-spaces_shown t s = test (eqb t.spaces.is 0)
-    (λ a. rw (s.no_spaces (eqb-true t.spaces.is 0 a)))
-    (λ a. rw a (eq-eqb t.spaces.is 1 (s.spaces (eqb-false t.spaces.is 0 a))))
-
 -- what holds of each thread that is there and of a fresh one holds of what is read
-pub by_id : (m : List (Row Thread)) (i : ℕ) (C : Thread → Type 0) → ((t : Thread) → at m i ≡ some t → C t) → C (fresh inactive no_budget_id) → C (thread m i)
+pub by_id : (m : List (Row Thread)) (i : ℕ) (C : Thread → Type 0) → ((t : Thread) → at m i ≡ Some t → C t) → C (fresh Inactive None) → C (thread m i)
 by_id m i C here missing = test (has m i)
     (λ a. here (thread m i) (there m i a))
     (λ a. subst C (sym (absent m i a)) missing)
@@ -101,15 +52,14 @@ by_id m i C here missing = test (has m i)
 pub sound_told : (b : Board) → sound b ≡ true → Sound b
 sound_told b h =
     let m = b.threads in
-    let (registry, (few, (rising, (threads, (dist, (queue, (here, (active, (idle_here, (idle_state, (idle_runs, (exits, (causes, z)))))))))))))
+    let (registry, (few, (rising, (threads, (dist, (queue, (here, (active, (idle_here, (idle_state, (idle_runs, (exits, z))))))))))))
     = all_told (board_tests b) h in
-    let fit : (i : ℕ) (t : Thread) → at m i ≡ some t → Truths (thread_tests b i t) = λ i t q. all_told (thread_tests b i t)
+    let fit : (i : ℕ) (t : Thread) → at m i ≡ Some t → Truths (thread_tests b i t) = λ i t q. all_told (thread_tests b i t)
     (Table.at_all (λ i t. all (thread_tests b i t) ≡ true) m (every_told (λ i t. all (thread_tests b i t)) m threads) i t q) in
     record {
       registry = objects.sound_told b.registry registry;
       few = leb-true (length m) 128 few;
       rising = rises_told m 0 (2 ^ 64) rising;
-      codes = λ i t q. thread_told b i t (fit i t q);
       distinct_queue = dist;
       queued = λ i. test (member i b.queue)
           (λ a. rw a (
@@ -119,25 +69,24 @@ sound_told b h =
           (λ a. rw a (test (not (eqb i idle) && is ready (thread m i))
           (λ c. absurd (false≢true (sym a ∙ either (eqb i idle) (member i b.queue)
           (by_id m i (λ t. is ready t ≡ true → (eqb i idle || member i b.queue) ≡ true)
-          (λ t q. implied (is ready t) (eqb i idle || member i b.queue) (fit i t q).1.1.1.1.0) (λ e. absurd (false≢true e))
+          (λ t q. implied (is ready t) (eqb i idle || member i b.queue) (fit i t q).0) (λ e. absurd (false≢true e))
           (second (not (eqb i idle)) (is ready (thread m i)) c))
           (not-true (eqb i idle) (first (not (eqb i idle)) (is ready (thread m i)) c)))))
           (λ c. sym c)));
       dead_current = λ i. by_id m i (λ t. is dead t ≡ true → i ≡ b.current)
-          (λ t q e. eqb-true i b.current (implied (is dead t) (eqb i b.current) (fit i t q).1.1.1.1.1.0 e))
+          (λ t q e. eqb-true i b.current (implied (is dead t) (eqb i b.current) (fit i t q).1.0 e))
           (λ e. absurd (false≢true e));
       running_current = λ i. by_id m i (λ t. is running t ≡ true → eqb i idle ≡ false → i ≡ b.current)
           (λ t q e x. eqb-true i b.current (either (eqb i idle) (eqb i b.current)
-          (implied (is running t) (eqb i idle || eqb i b.current) (fit i t q).1.1.1.1.1.1.0 e) x))
+          (implied (is running t) (eqb i idle || eqb i b.current) (fit i t q).1.1.0 e) x))
           (λ e. absurd (false≢true e));
       current_here = here;
       current_active = not-true (is inactive (thread m b.current)) active;
       idle_here = idle_here;
       idle_state = idle_state;
       idle_runs = λ q. implied (eqb b.current idle) (is running (thread m idle)) idle_runs (eq-eqb b.current idle q);
-      budgets = λ i e. same_told (eqb (thread m i).budget.is 0) (unpaid i) (fit i (thread m i) (there m i e)).1.1.1.1.1.1.1.0;
+      budgets = λ i e. same_told (is_none (thread m i).budget) (unpaid i) (fit i (thread m i) (there m i e)).1.1.1.0;
       few_exits = leb-true (length b.exits) 32 exits;
-      causes = causes;
     }
 
 -- Of a sound board: an id in the queue is not idle's, and its thread is there and Ready.
@@ -172,7 +121,7 @@ sound_shown b o =
               o.distinct_queue,
               (
                 queue,
-                (o.current_here, (active, (o.idle_here, (o.idle_state, (idle_runs, (le-leb (length b.exits) 32 o.few_exits, (o.causes, tt))))))),
+                (o.current_here, (active, (o.idle_here, (o.idle_state, (idle_runs, (le-leb (length b.exits) 32 o.few_exits, tt)))))),
               ),
             ),
           ),
@@ -183,14 +132,13 @@ sound_shown b o =
     queue_one : (i : ℕ) → member i b.queue ≡ true → (not (eqb i idle) && (has b.threads i && is ready (thread b.threads i))) ≡ true
     queue_one i a = rw (queued_busy b o i a, queued_there b o i a, queued_ready b o i a)
 
-    one : (i : ℕ) (t : Thread) → at b.threads i ≡ some t → all (thread_tests b i t) ≡ true
+    one : (i : ℕ) (t : Thread) → at b.threads i ≡ Some t → all (thread_tests b i t) ≡ true
     one i t q =
-        let s = o.codes i t q in
         let e : thread b.threads i ≡ t = ap or_fresh q in
         let is_queued = implying (is ready t) (eqb i idle || member i b.queue) (λ r. test (eqb i idle) (λ a. rw a) (λ a. rw (a, o.queued i, e, r, a))) in
         let is_current = implying (is dead t) (eqb i b.current) (λ d. eq-eqb i b.current (o.dead_current i (rw e d))) in
         let runs = implying (is running t) (eqb i idle || eqb i b.current) (λ r. test (eqb i idle) (λ a. rw a)
         (λ a. rw a (eq-eqb i b.current (o.running_current i (rw e r) a)))) in
-        let paid = same_shown (eqb t.budget.is 0) (unpaid i) (rw e at (o.budgets i (ap found q))) in
+        let paid = same_shown (is_none t.budget) (unpaid i) (rw e at (o.budgets i (ap found q))) in
         all_shown (thread_tests b i t)
-        (state_shown t s, (waits_shown t s, (budget_shown t s, (spaces_shown t s, (is_queued, (is_current, (runs, (paid, tt))))))))
+        (is_queued, (is_current, (runs, (paid, tt))))

@@ -1,122 +1,64 @@
 -- The steps of which the calls are made, each of which keeps a sound board sound: a thread changes, joins the queue, stops or goes; a budget is renewed or
 -- charged. Assumes nothing.
-use Rattle.std.specs.Prelude.{◌≡◌, refl, Bool, true, false, cond, not, ◌&&◌, ◌||◌, List, [], ◌∷◌, ◌++◌, ℕ, ◌+◌, ◌^◌, ◌≤◌, eqb, length, drop}
-use Rattle.std.proofs.Common.{sym, ◌∙◌, ap, subst, arith, length-append, length-drop, eqb-true, ne_eqb}
+use Rattle.std.specs.Prelude.{◌≡◌, refl, Bool, true, false, cond, not, ◌&&◌, ◌||◌, List, ℕ, ◌+◌, ◌^◌, ◌≤◌, eqb, length, Option, Some, None}
+use Rattle.std.proofs.Common.{sym, ◌∙◌, arith, length-append, length-drop, eqb-true, ne_eqb}
 use Rattle.std.proofs.lemmas.Bool.{false≢true, eqb-false}
-use Rattle.std.proofs.Math.Option.{some}
 use Rattle.carv_area.specs.Laws.Table
-use Rattle.carv_area.specs.Table.{Row, at, alter, erase, put}
+use Rattle.carv_area.specs.Table.{Row, alter, erase, put}
 use Rattle.carv_area.specs.Laws.Table.{test}
-use Rattle.carv_budget.proofs.Laws.Account.{first, second}
 use Rattle.carv_objects_spec.specs.Registry.{Registry}
 use Rattle.carv_objects_spec.proofs.Laws.SoundFacts as objects
 use Rattle.carv_objects_spec.proofs.Laws.Kept as objects_kept
 use Rattle.carv_scheduler_spec.specs.declared.Wait.{Wait}
-use Rattle.carv_scheduler_spec.specs.declared.BudgetId.{BudgetId}
-use Rattle.carv_scheduler_spec.specs.declared.Context.{Context}
-use Rattle.carv_scheduler_spec.specs.declared.Results.{Results}
+use Rattle.carv_scheduler_spec.specs.declared.Wait.TheVariants.{Sleep}
+use Rattle.carv_scheduler_spec.specs.declared.State.{State}
+use Rattle.carv_scheduler_spec.specs.declared.State.TheVariants.{Inactive, Ready, Running, Blocked, Dead}
 use Rattle.carv_scheduler_spec.specs.declared.Thread.{Thread}
 use Rattle.carv_scheduler_spec.specs.declared.Exit.{Exit}
-use Rattle.carv_scheduler_spec.specs.Scheduler.{Board, idle, tick_ns, inactive, ready, running, blocked, dead, is, wait_listed, no_wait, no_budget_id, in_spaces, fresh, or_fresh, thread, has, become, started, woken, ticked, with_registry, with_threads, join, without, logged, renew_for, charge_tick}
-use Rattle.carv_scheduler_spec.specs.Sound.{member, distinct, each, sound_exit}
-use Rattle.carv_scheduler_spec.proofs.Laws.SoundFacts.{SoundThread, Sound}
+use Rattle.carv_scheduler_spec.specs.Scheduler.{Board, idle, tick_ns, inactive, ready, running, blocked, dead, is, wait_in, wait_of, fresh, thread, has, become, ticked, with_registry, with_threads, join, without, logged, renew_for, charge_tick}
+use Rattle.carv_scheduler_spec.specs.Sound.{member, distinct}
+use Rattle.carv_scheduler_spec.proofs.Laws.SoundFacts.{Sound}
 use Rattle.carv_scheduler_spec.proofs.Laws.Reading.{or_false, and_false, or_true, absent, thread_alter, has_alter, thread_erase, has_erase, thread_put, member_join, member_without, distinct_join, distinct_without}
-use Rattle.carv_scheduler_spec.proofs.Laws.SoundLaws.{by_id}
 
 -- Thread records.
 
+-- no state passes both tests
+abbrev pub Disjoint : (s s' : State → Bool) → Type 0
+Disjoint s s' = (w : Wait) → ((s Inactive && s' Inactive) || ((s Ready && s' Ready) || ((s Running && s' Running) || ((s (Blocked w) && s' (Blocked w)) || (s Dead && s' Dead))))) ≡ false
+
 -- a thread in one state is in no other
-pub other_state : (s s' : ℕ) (t : Thread) → is s t ≡ true → eqb s s' ≡ false → is s' t ≡ false
-other_state s s' t h n = rw (eqb-true t.state s h, n)
+pub other_state : (s s' : State → Bool) (t : Thread) → is s t ≡ true → Disjoint s s' → is s' t ≡ false
+other_state s s' t h n = go t.state h
+  where
+    go : (x : State) → s x ≡ true → s' x ≡ false
+    go Inactive h = grind (arith, n (Sleep 0), h)
+    go Ready h = grind (arith, n (Sleep 0), h)
+    go Running h = grind (arith, n (Sleep 0), h)
+    go (Blocked w) h = grind (arith, n w, h)
+    go Dead h = grind (arith, n (Sleep 0), h)
 
 -- one that is Ready or Running is in no third
-pub up_not : (t : Thread) (s : ℕ) → (is ready t || is running t) ≡ true → eqb s ready ≡ false → eqb s running ≡ false → is s t ≡ false
+pub up_not : (t : Thread) (s : State → Bool) → (is ready t || is running t) ≡ true → Disjoint s ready → Disjoint s running → is s t ≡ false
 up_not t s h x y = test (is s t) (λ a. absurd (false≢true (rw (other_state s ready t a x, other_state s running t a y) at h))) (λ a. a)
 
-pub fresh_sound : (s : ℕ) (p : BudgetId) → 1 ≤ s → s ≤ 5 → eqb s blocked ≡ false → ((p.is ≡ 0 → ⊥) → p.is ≡ 1) → (p.is ≡ 0 → p ≡ no_budget_id)
-    → SoundThread (fresh s p)
-fresh_sound s p low high n budget no_budget = record {
-  state_low = low;
-  state_high = high;
-  waits = λ a. absurd (false≢true (sym n ∙ a));
-  waits_not = λ a. refl;
-  budget = budget;
-  no_budget = no_budget;
-  spaces = λ a. absurd (a refl);
-  no_spaces = λ a. refl;
-}
-
-pub become_sound : (s : ℕ) (w : Wait) (t : Thread) → SoundThread t → 1 ≤ s → s ≤ 5 → (eqb s blocked ≡ true → wait_listed w.kind ≡ true)
-    → (eqb s blocked ≡ false → w ≡ no_wait) → SoundThread (become s w t)
-become_sound s w t c low high waits waits_not = record {
-  state_low = low;
-  state_high = high;
-  waits = waits;
-  waits_not = waits_not;
-  budget = c.budget;
-  no_budget = c.no_budget;
-  spaces = c.spaces;
-  no_spaces = c.no_spaces;
-}
-
--- Ready, Running or Dead: no wait
-pub no_wait_sound : (s : ℕ) (t : Thread) → SoundThread t → 1 ≤ s → s ≤ 5 → eqb s blocked ≡ false → SoundThread (become s no_wait t)
-no_wait_sound s t c low high n = become_sound s no_wait t c low high (λ a. absurd (false≢true (sym n ∙ a))) (λ a. refl)
-
-pub started_sound : (space cspace root : ℕ) (x : Context) (t : Thread) → SoundThread t → SoundThread (started (in_spaces space cspace root) x t)
-started_sound space cspace root x t c = record {
-  state_low = omega arith;
-  state_high = omega arith;
-  waits = λ a. absurd (false≢true a);
-  waits_not = λ a. refl;
-  budget = c.budget;
-  no_budget = c.no_budget;
-  spaces = λ a. refl;
-  no_spaces = λ a. absurd (omega arith);
-}
-
-pub woken_sound : (r : Results) (t : Thread) → SoundThread t → SoundThread (woken r t)
-woken_sound r t c = record {
-  state_low = omega arith;
-  state_high = omega arith;
-  waits = λ a. absurd (false≢true a);
-  waits_not = λ a. refl;
-  budget = c.budget;
-  no_budget = c.no_budget;
-  spaces = c.spaces;
-  no_spaces = c.no_spaces;
-}
-
-pub ticked_sound : (t : Thread) → SoundThread t → SoundThread (ticked t)
-ticked_sound t c = record {
-  state_low = c.state_low;
-  state_high = c.state_high;
-  waits = c.waits;
-  waits_not = c.waits_not;
-  budget = c.budget;
-  no_budget = c.no_budget;
-  spaces = c.spaces;
-  no_spaces = c.no_spaces;
-}
-
-pub missing_sound : SoundThread (fresh inactive no_budget_id)
-missing_sound = fresh_sound inactive no_budget_id (omega arith) (omega arith) refl (λ a. absurd (a refl)) (λ a. refl)
-
--- the codes of what is read, and those of each record
-pub codes_of : (b : Board) → Sound b → (i : ℕ) → SoundThread (thread b.threads i)
-codes_of b o i = by_id b.threads i SoundThread (o.codes i) missing_sound
-
-pub codes_by : (m : List (Row Thread)) → ((i : ℕ) → SoundThread (thread m i)) → (i : ℕ) (t : Thread) → at m i ≡ some t → SoundThread t
-codes_by m c i t q = subst SoundThread (ap or_fresh q) (c i)
+-- one that is not Blocked waits for nothing
+pub waits_not : (t : Thread) → is blocked t ≡ false → wait_of t ≡ None
+waits_not t h = go t.state h
+  where
+    go : (x : State) → blocked x ≡ false → wait_in x ≡ None
+    go Inactive h = refl
+    go Ready h = refl
+    go Running h = refl
+    go (Blocked w) h = absurd (false≢true (sym h))
+    go Dead h = refl
 
 -- an id whose thread is neither Ready nor Running is not idle's
-pub apart : (b : Board) → Sound b → (i s : ℕ) → is s (thread b.threads i) ≡ true → eqb s ready ≡ false → eqb s running ≡ false → eqb i idle ≡ false
+pub apart : (b : Board) → Sound b → (i : ℕ) (s : State → Bool) → is s (thread b.threads i) ≡ true → Disjoint s ready → Disjoint s running → eqb i idle ≡ false
 apart b o i s h x y = ne_eqb i idle (λ z. false≢true (sym (up_not (thread b.threads i) s (rw z o.idle_state) x y) ∙ h))
 
 -- One thread changes: thread i of the board b becomes t, and the queue becomes q.
 pub record Changes (b : Board) (i : ℕ) (t : Thread) (q : List ℕ) : Type 0 where
   pub here : has b.threads i ≡ true
-  pub codes : SoundThread t
   pub budget : t.budget ≡ (thread b.threads i).budget
   pub distinct_queue : distinct q ≡ true
   pub queued : (j : ℕ) → member j q ≡ cond (eqb i j) (not (eqb i idle) && is ready t) (member j b.queue)
@@ -127,7 +69,7 @@ pub record Changes (b : Board) (i : ℕ) (t : Thread) (q : List ℕ) : Type 0 wh
   pub idle_runs : i ≡ idle → b.current ≡ idle → is running t ≡ true
 
 pub change_kept : (b : Board) (i : ℕ) (f : Thread → Thread) (q : List ℕ) (exits : List Exit) → Sound b → Changes b i (f (thread b.threads i)) q
-    → length exits ≤ 32 → each sound_exit exits ≡ true
+    → length exits ≤ 32
     → Sound (record {
       registry = b.registry;
       threads = alter i f b.threads;
@@ -136,7 +78,7 @@ pub change_kept : (b : Board) (i : ℕ) (f : Thread → Thread) (q : List ℕ) (
       switches = b.switches;
       exits = exits;
     })
-change_kept b i f q exits o g few_exits causes =
+change_kept b i f q exits o g few_exits =
     let m = b.threads in
     let t = f (thread m i) in
     let now = thread_alter m i f g.here in
@@ -145,7 +87,6 @@ change_kept b i f q exits o g few_exits causes =
       registry = o.registry;
       few = rw Table.length_alter o.few;
       rising = Table.rising_alter m 0 (2 ^ 64) i f o.rising;
-      codes = codes_by (alter i f m) (λ j. rw (now j) (test (eqb i j) (λ a. rw a g.codes) (λ a. rw a (codes_of b o j))));
       distinct_queue = g.distinct_queue;
       queued = λ j. g.queued j ∙ rw (now j) (test (eqb i j) (λ a. rw (a, eqb-true i j a)) (λ a. rw a (o.queued j)));
       dead_current = λ j d. test (eqb i j)
@@ -164,17 +105,15 @@ change_kept b i f q exits o g few_exits causes =
       budgets = λ j d. rw (now j) (let k = o.budgets j (sym (here j) ∙ d) in
           test (eqb i j) (λ a. rw (a, g.budget, eqb-true i j a) k) (λ a. rw a k));
       few_exits = few_exits;
-      causes = causes;
     }
 
 -- thread i, which was not Ready and is not idle, becomes Ready and joins the queue's end
 pub join_kept : (b : Board) (i : ℕ) (f : Thread → Thread) → Sound b → has b.threads i ≡ true → eqb i idle ≡ false → is ready (thread b.threads i) ≡ false
-    → SoundThread (f (thread b.threads i)) → (f (thread b.threads i)).state ≡ ready → (f (thread b.threads i)).budget ≡ (thread b.threads i).budget
+    → (f (thread b.threads i)).state ≡ Ready → (f (thread b.threads i)).budget ≡ (thread b.threads i).budget
     → Sound (with_threads (alter i f b.threads) (join b.queue i) b)
-join_kept b i f o h busy was_not codes s budget = change_kept b i f (join b.queue i) b.exits o
+join_kept b i f o h busy was_not s budget = change_kept b i f (join b.queue i) b.exits o
     (record {
       here = h;
-      codes = codes;
       budget = budget;
       distinct_queue = distinct_join b.queue i o.distinct_queue (o.queued i ∙ rw was_not (and_false (not (eqb i idle))));
       queued = λ j. rw (member_join j b.queue i, s, busy) (test (eqb i j)
@@ -186,24 +125,22 @@ join_kept b i f o h busy was_not codes s budget = change_kept b i f (join b.queu
       idle_state = λ q. rw s;
       idle_runs = λ q z. absurd (eqb-false i idle busy q);
     })
-    o.few_exits o.causes
+    o.few_exits
 
 -- the current thread, which is not idle, stops: Blocked or Dead
-pub stop_kept : (b : Board) (s : ℕ) (w : Wait) (exits : List Exit) → Sound b → eqb b.current idle ≡ false
-    → SoundThread (become s w (thread b.threads b.current)) → eqb s ready ≡ false → eqb s inactive ≡ false
-    → length exits ≤ 32 → each sound_exit exits ≡ true
+pub stop_kept : (b : Board) (s : State) (exits : List Exit) → Sound b → eqb b.current idle ≡ false
+    → ready s ≡ false → inactive s ≡ false → length exits ≤ 32
     → Sound (record {
       registry = b.registry;
-      threads = alter b.current (become s w) b.threads;
+      threads = alter b.current (become s) b.threads;
       queue = without b.current b.queue;
       current = b.current;
       switches = b.switches;
       exits = exits;
     })
-stop_kept b s w exits o busy codes unready active = change_kept b b.current (become s w) (without b.current b.queue) exits o
+stop_kept b s exits o busy unready active = change_kept b b.current (become s) (without b.current b.queue) exits o
     (record {
       here = o.current_here;
-      codes = codes;
       budget = refl;
       distinct_queue = distinct_without b.queue b.current o.distinct_queue;
       queued = λ j. rw (member_without j b.queue b.current, unready) (test (eqb b.current j)
@@ -216,7 +153,7 @@ stop_kept b s w exits o busy codes unready active = change_kept b b.current (bec
       idle_runs = λ q z. absurd (eqb-false b.current idle busy q);
     })
 
--- The log stays short, and its causes listed ones.
+-- The log stays short.
 
 pub logged_few : (e : Exit) (l : List Exit) → length l ≤ 32 → length (logged e l) ≤ 32
 logged_few e l h = test (eqb (length l) 32)
@@ -226,24 +163,9 @@ logged_few e l h = test (eqb (length l) 32)
     below : (n : ℕ) → n ≤ 32 → (n ≡ 32 → ⊥) → n + 1 ≤ 32
     below n h d = omega arith
 
-module _ {A : Type 0} (p : A → Bool) where
-  pub each_append : (l : List A) (a : A) → each p l ≡ true → p a ≡ true → each p (l ++ (a ∷ [])) ≡ true
-  each_append [] a h k = rw k
-  each_append (x ∷ l) a h k = rw (first (p x) (each p l) h) (each_append l a (second (p x) (each p l) h) k)
-
-  pub each_drop : (l : List A) → each p l ≡ true → each p (drop 1 l) ≡ true
-  each_drop [] h = refl
-  each_drop (x ∷ l) h = second (p x) (each p l) h
-
-pub logged_listed : (e : Exit) (l : List Exit) → sound_exit e ≡ true → each sound_exit l ≡ true
-    → each sound_exit (logged e l) ≡ true
-logged_listed e l c h = test (eqb (length l) 32)
-    (λ a. rw a (each_append sound_exit (drop 1 l) e (each_drop sound_exit l h) c))
-    (λ a. rw a (each_append sound_exit l e h c))
-
 -- thread i, neither idle nor current, goes
 pub gone_kept : (b : Board) (i : ℕ) (exits : List Exit) → Sound b → eqb i idle ≡ false → eqb i b.current ≡ false
-    → length exits ≤ 32 → each sound_exit exits ≡ true
+    → length exits ≤ 32
     → Sound (record {
       registry = b.registry;
       threads = erase i b.threads;
@@ -252,7 +174,7 @@ pub gone_kept : (b : Board) (i : ℕ) (exits : List Exit) → Sound b → eqb i 
       switches = b.switches;
       exits = exits;
     })
-gone_kept b i exits o busy away few_exits causes =
+gone_kept b i exits o busy away few_exits =
     let m = b.threads in
     let now = thread_erase m i 0 (2 ^ 64) o.rising in
     let here = has_erase m i 0 (2 ^ 64) o.rising in
@@ -260,7 +182,6 @@ gone_kept b i exits o busy away few_exits causes =
       registry = o.registry;
       few = omega (arith, o.few, Table.length_erase m i);
       rising = Table.rising_erase m 0 (2 ^ 64) i o.rising;
-      codes = codes_by (erase i m) (λ j. rw (now j) (test (eqb i j) (λ a. rw a missing_sound) (λ a. rw a (codes_of b o j))));
       distinct_queue = distinct_without b.queue i o.distinct_queue;
       queued = λ j. rw (member_without j b.queue i, now j) (test (eqb i j)
           (λ a. rw a (sym (and_false (not (eqb j idle)))))
@@ -280,12 +201,11 @@ gone_kept b i exits o busy away few_exits causes =
           (λ a. absurd (false≢true (rw (here j, a) at d)))
           (λ a. rw a (o.budgets j (rw (here j, a) at d))));
       few_exits = few_exits;
-      causes = causes;
     }
 
 -- a new thread has the state that it read as before: Inactive
-pub put_state : (m : List (Row Thread)) (i : ℕ) (p : BudgetId) → has m i ≡ false → (j : ℕ) → (thread (put i (fresh inactive p) m) j).state ≡ (thread m j).state
-put_state m i p h j = rw (thread_put m i (fresh inactive p) j) (test (eqb i j)
+pub put_state : (m : List (Row Thread)) (i : ℕ) (p : Option ℕ) → has m i ≡ false → (j : ℕ) → (thread (put i (fresh Inactive p) m) j).state ≡ (thread m j).state
+put_state m i p h j = rw (thread_put m i (fresh Inactive p) j) (test (eqb i j)
     (λ a. rw (a, ← eqb-true i j a, absent m i h))
     (λ a. rw a))
 
@@ -297,7 +217,6 @@ registry_kept r b s o = record {
   registry = s;
   few = o.few;
   rising = o.rising;
-  codes = o.codes;
   distinct_queue = o.distinct_queue;
   queued = o.queued;
   dead_current = o.dead_current;
@@ -309,21 +228,21 @@ registry_kept r b s o = record {
   idle_runs = o.idle_runs;
   budgets = o.budgets;
   few_exits = o.few_exits;
-  causes = o.causes;
 }
 
-pub renew_for_kept : (time : ℕ) (p : BudgetId) (r : Registry) → objects.Sound r → objects.Sound (renew_for time p r)
-renew_for_kept time p r s = test (eqb p.is 0) (λ a. rw a s) (λ a. rw a (objects_kept.refill_kept p.id time r s))
+pub renew_for_kept : (time : ℕ) (p : Option ℕ) (r : Registry) → objects.Sound r → objects.Sound (renew_for time p r)
+renew_for_kept time None r s = s
+renew_for_kept time (Some p) r s = objects_kept.refill_kept p time r s
 
-pub charge_tick_kept : (time : ℕ) (p : BudgetId) (r : Registry) → objects.Sound r → objects.Sound (charge_tick time p r)
-charge_tick_kept time p r s = test (eqb p.is 0) (λ a. rw a s) (λ a. rw a (objects_kept.charge_most_kept p.id tick_ns time r s))
+pub charge_tick_kept : (time : ℕ) (p : Option ℕ) (r : Registry) → objects.Sound r → objects.Sound (charge_tick time p r)
+charge_tick_kept time None r s = s
+charge_tick_kept time (Some p) r s = objects_kept.charge_most_kept p tick_ns time r s
 
--- thread i keeps its state, wait and budget
+-- thread i keeps its state and budget
 pub ticked_kept : (b : Board) (i : ℕ) → Sound b → has b.threads i ≡ true → Sound (with_threads (alter i ticked b.threads) b.queue b)
 ticked_kept b i o h = change_kept b i ticked b.queue b.exits o
     (record {
       here = h;
-      codes = ticked_sound (thread b.threads i) (codes_of b o i);
       budget = refl;
       distinct_queue = o.distinct_queue;
       queued = λ j. test (eqb i j) (λ a. rw (a, ← eqb-true i j a) (o.queued i)) (λ a. rw a);
@@ -333,4 +252,4 @@ ticked_kept b i o h = change_kept b i ticked b.queue b.exits o
       idle_state = λ q. rw q o.idle_state;
       idle_runs = λ q z. rw q (o.idle_runs z);
     })
-    o.few_exits o.causes
+    o.few_exits

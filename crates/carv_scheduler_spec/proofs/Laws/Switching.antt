@@ -1,5 +1,5 @@
 -- Planning: what is chosen from the queue, and that putting back and switching keep a sound board sound. Assumes nothing.
-use Rattle.std.specs.Prelude.{◌≡◌, refl, Bool, true, false, cond, not, ◌&&◌, ◌||◌, List, [], ◌∷◌, ℕ, ◌^◌, ◌≤◌, eqb, length}
+use Rattle.std.specs.Prelude.{◌≡◌, refl, Bool, true, false, cond, not, ◌&&◌, ◌||◌, List, [], ◌∷◌, ℕ, ◌^◌, ◌≤◌, eqb, length, None}
 use Rattle.std.proofs.Common.{sym, subst, ◌∙◌, true≢false, arith, eqb-true, eq-eqb, ne_eqb}
 use Rattle.std.proofs.lemmas.Bool.{false≢true, eqb-false, not-true}
 use Rattle.carv_area.specs.Laws.Table
@@ -8,13 +8,15 @@ use Rattle.carv_area.specs.Laws.Table.{test}
 use Rattle.carv_budget.proofs.Laws.Account.{first, second}
 use Rattle.carv_objects_spec.specs.Registry.{Registry}
 use Rattle.carv_objects_spec.proofs.Laws.SoundFacts as objects
+use Rattle.carv_scheduler_spec.specs.declared.State.{State}
+use Rattle.carv_scheduler_spec.specs.declared.State.TheVariants.{Inactive, Ready, Running}
 use Rattle.carv_scheduler_spec.specs.declared.Thread.{Thread}
-use Rattle.carv_scheduler_spec.specs.Scheduler.{Board, Choice, idle, inactive, ready, running, blocked, dead, is, wait_of, no_wait, no_budget_id, fresh, thread, has, become, renew_for, has_time, put_back, choose, switch_to}
+use Rattle.carv_scheduler_spec.specs.Scheduler.{Board, Choice, idle, ready, running, blocked, dead, is, wait_of, fresh, thread, has, become, renew_for, has_time, put_back, choose, switch_to}
 use Rattle.carv_scheduler_spec.specs.Sound.{member, distinct}
-use Rattle.carv_scheduler_spec.proofs.Laws.SoundFacts.{SoundThread, Sound}
+use Rattle.carv_scheduler_spec.proofs.Laws.SoundFacts.{Sound}
 use Rattle.carv_scheduler_spec.proofs.Laws.Reading.{and_false, or_true, neither, thread_alter, has_alter, thread_erase, has_erase, distinct_first, distinct_rest}
 use Rattle.carv_scheduler_spec.proofs.Laws.SoundLaws.{queued_ready}
-use Rattle.carv_scheduler_spec.proofs.Laws.Steps.{other_state, up_not, no_wait_sound, codes_of, codes_by, join_kept, renew_for_kept, missing_sound}
+use Rattle.carv_scheduler_spec.proofs.Laws.Steps.{Disjoint, other_state, up_not, waits_not, join_kept, renew_for_kept}
 
 -- The planning's choice goes through the queue from its front.
 module _ (time : ℕ) (m : List (Row Thread)) where
@@ -106,16 +108,15 @@ put_back_kept b o =
     let t = thread b.threads b.current in
     test (not (eqb b.current idle) && is running t)
     (λ a. let s = second (not (eqb b.current idle)) (is running t) a in
-    rw a (join_kept b b.current (become ready no_wait) o o.current_here
-    (not-true (eqb b.current idle) (first (not (eqb b.current idle)) (is running t) a)) (other_state running ready t s refl)
-    (no_wait_sound ready t (codes_of b o b.current) (omega arith) (omega arith) refl) refl refl))
+    rw a (join_kept b b.current (become Ready) o o.current_here
+    (not-true (eqb b.current idle) (first (not (eqb b.current idle)) (is running t) a)) (other_state running ready t s (λ _. refl)) refl refl))
     (λ a. rw a o)
 
 -- after that a current thread that runs is idle
 pub put_back_idle : (b : Board) → Sound b → is running (thread (put_back b).threads (put_back b).current) ≡ true → eqb (put_back b).current idle ≡ true
 put_back_idle b o = test (not (eqb b.current idle) && is running (thread b.threads b.current))
     (λ a. rw a (λ h. absurd (false≢true (rw (
-      thread_alter b.threads b.current (become ready no_wait) o.current_here b.current,
+      thread_alter b.threads b.current (become Ready) o.current_here b.current,
       eq-eqb b.current b.current refl,
     ) at h))))
     (λ a. rw a (λ h. test (eqb b.current idle) (λ c. c) (λ c. absurd (true≢false (rw (c, h) at a)))))
@@ -124,23 +125,20 @@ put_back_idle b o = test (not (eqb b.current idle) && is running (thread b.threa
 
 -- a thread after the switch, if it is not the chosen one: a dead one is gone
 abbrev pub cleared : Thread → Thread
-cleared t = cond (is dead t) (fresh inactive no_budget_id) t
+cleared t = cond (is dead t) (fresh Inactive None) t
 
 module _ (t : Thread) where
-  pub cleared_is : (s : ℕ) → eqb dead s ≡ false → eqb inactive s ≡ false → is s (cleared t) ≡ is s t
+  pub cleared_is : (s : State → Bool) → Disjoint dead s → s Inactive ≡ false → is s (cleared t) ≡ is s t
   cleared_is s x y = test (is dead t) (λ d. rw (d, other_state dead s t d x, y)) (λ d. rw d)
 
   pub cleared_dead : is dead (cleared t) ≡ false
   cleared_dead = test (is dead t) (λ d. rw d) (λ d. rw (d, d))
 
-  cleared_sound : SoundThread t → SoundThread (cleared t)
-  cleared_sound c = test (is dead t) (λ d. rw d missing_sound) (λ d. rw d c)
-
 -- the table m reads as b's, but that thread i runs and a dead one is gone
 pub record Switched (b : Board) (i : ℕ) (m : List (Row Thread)) : Type 0 where
   pub few : length m ≤ 128
   pub rising : Rising 0 (2 ^ 64) m
-  pub after : (j : ℕ) → thread m j ≡ cond (eqb i j) (become running no_wait (thread b.threads i)) (cleared (thread b.threads j))
+  pub after : (j : ℕ) → thread m j ≡ cond (eqb i j) (become Running (thread b.threads i)) (cleared (thread b.threads j))
   pub here : (j : ℕ) → has m j ≡ (has b.threads j && (eqb i j || not (is dead (thread b.threads j))))
 
 and_true : (b : Bool) → (b && true) ≡ b
@@ -148,18 +146,18 @@ and_true true = refl
 and_true false = refl
 
 module _ (b : Board) (o : Sound b) (i : ℕ) (h : has b.threads i ≡ true) where
-  run_now : (j : ℕ) → thread (alter i (become running no_wait) b.threads) j
-      ≡ cond (eqb i j) (become running no_wait (thread b.threads i)) (thread b.threads j)
-  run_now j = thread_alter b.threads i (become running no_wait) h j
+  run_now : (j : ℕ) → thread (alter i (become Running) b.threads) j
+      ≡ cond (eqb i j) (become Running (thread b.threads i)) (thread b.threads j)
+  run_now j = thread_alter b.threads i (become Running) h j
 
-  run_here : (j : ℕ) → has (alter i (become running no_wait) b.threads) j ≡ has b.threads j
-  run_here j = has_alter b.threads i (become running no_wait) h j
+  run_here : (j : ℕ) → has (alter i (become Running) b.threads) j ≡ has b.threads j
+  run_here j = has_alter b.threads i (become Running) h j
 
-  run_rising : Rising 0 (2 ^ 64) (alter i (become running no_wait) b.threads)
-  run_rising = Table.rising_alter b.threads 0 (2 ^ 64) i (become running no_wait) o.rising
+  run_rising : Rising 0 (2 ^ 64) (alter i (become Running) b.threads)
+  run_rising = Table.rising_alter b.threads 0 (2 ^ 64) i (become Running) o.rising
 
   -- the thread that is left is not dead
-  pub stays : (not (eqb i b.current) && is dead (thread b.threads b.current)) ≡ false → Switched b i (alter i (become running no_wait) b.threads)
+  pub stays : (not (eqb i b.current) && is dead (thread b.threads b.current)) ≡ false → Switched b i (alter i (become Running) b.threads)
   stays n = record {
     few = rw Table.length_alter o.few;
     rising = run_rising;
@@ -176,13 +174,13 @@ module _ (b : Board) (o : Sound b) (i : ℕ) (h : has b.threads i ≡ true) wher
 
   -- it is dead, and goes
   pub leaves : (not (eqb i b.current) && is dead (thread b.threads b.current)) ≡ true
-      → Switched b i (erase b.current (alter i (become running no_wait) b.threads))
+      → Switched b i (erase b.current (alter i (become Running) b.threads))
   leaves y =
-      let m = alter i (become running no_wait) b.threads in
+      let m = alter i (become Running) b.threads in
       let off = not-true (eqb i b.current) (first (not (eqb i b.current)) (is dead (thread b.threads b.current)) y) in
       let d = second (not (eqb i b.current)) (is dead (thread b.threads b.current)) y in
       record {
-        few = omega (arith, Table.length_erase m b.current, Table.length_alter b.threads i (become running no_wait), o.few);
+        few = omega (arith, Table.length_erase m b.current, Table.length_alter b.threads i (become Running), o.few);
         rising = Table.rising_erase m 0 (2 ^ 64) b.current run_rising;
         after = λ j. rw (thread_erase m b.current 0 (2 ^ 64) run_rising j) (test (eqb b.current j)
             (λ a. rw (a, ← eqb-true b.current j a, off, d))
@@ -218,9 +216,9 @@ module _ (b : Board) (i : ℕ) (m : List (Row Thread)) (w : Switched b i m) wher
   pub switched_wait : (is ready (thread b.threads i) || is running (thread b.threads i)) ≡ true
       → (j : ℕ) → wait_of (thread m j) ≡ wait_of (thread b.threads j)
   switched_wait up j = rw (w.after j) (test (eqb i j)
-      (λ a. rw (a, ← eqb-true i j a, up_not (thread b.threads i) blocked up refl refl))
+      (λ a. rw (a, ← eqb-true i j a, waits_not (thread b.threads i) (up_not (thread b.threads i) blocked up (λ _. refl) (λ _. refl))))
       (λ a. rw a (test (is dead (thread b.threads j))
-      (λ d. rw (d, other_state dead blocked (thread b.threads j) d refl))
+      (λ d. rw (d, waits_not (thread b.threads j) (other_state dead blocked (thread b.threads j) d (λ _. refl))))
       (λ d. rw d))))
 
 -- what a choice is like: its registry is sound, it is there, and what is left of the queue is all but it
@@ -239,7 +237,7 @@ chosen b time o = record {
 }
 
 pub idle_alive : (b : Board) → Sound b → is dead (thread b.threads idle) ≡ false
-idle_alive b o = up_not (thread b.threads idle) dead o.idle_state refl refl
+idle_alive b o = up_not (thread b.threads idle) dead o.idle_state (λ _. refl) (λ _. refl)
 
 pub switch_to_kept : (b : Board) (c : Choice) → Sound b → Chosen b c → (is running (thread b.threads b.current) ≡ true → eqb b.current idle ≡ true)
     → Sound (switch_to c b)
@@ -252,19 +250,16 @@ switch_to_kept b c o k only =
       registry = k.registry;
       few = w.few;
       rising = w.rising;
-      codes = codes_by (switch_to c b).threads (λ j. rw (w.after j) (test (eqb i j)
-          (λ a. rw a (no_wait_sound running (thread m i) (codes_of b o i) (omega arith) (omega arith) refl))
-          (λ a. rw a (cleared_sound (thread m j) (codes_of b o j)))));
       distinct_queue = k.distinct_rest;
       queued = λ j. rw (k.rest j, w.after j) (test (eqb i j)
           (λ a. rw a (sym (and_false (not (eqb j idle)))))
-          (λ a. rw (a, cleared_is (thread m j) ready refl refl) (o.queued j)));
+          (λ a. rw (a, cleared_is (thread m j) ready (λ _. refl) refl) (o.queued j)));
       dead_current = λ j d. test (eqb i j)
           (λ a. sym (eqb-true i j a))
           (λ a. absurd (false≢true (sym (cleared_dead (thread m j)) ∙ rw (w.after j, a) at d)));
       running_current = λ j d e. test (eqb i j)
           (λ a. sym (eqb-true i j a))
-          (λ a. let r = sym (cleared_is (thread m j) running refl refl) ∙ rw (w.after j, a) at d in
+          (λ a. let r = sym (cleared_is (thread m j) running (λ _. refl) refl) ∙ rw (w.after j, a) at d in
           let q = o.running_current j r e in
           absurd (false≢true (sym e ∙ rw q (only (rw q at r)))));
       current_here = rw (w.here i, on, k.here);
@@ -272,9 +267,8 @@ switch_to_kept b c o k only =
       idle_here = rw (w.here idle, o.idle_here, idle_alive b o) (or_true (eqb i idle) refl);
       idle_state = rw (w.after idle) (test (eqb i idle)
           (λ a. rw a)
-          (λ a. rw (a, cleared_is (thread m idle) ready refl refl, cleared_is (thread m idle) running refl refl) o.idle_state));
+          (λ a. rw (a, cleared_is (thread m idle) ready (λ _. refl) refl, cleared_is (thread m idle) running (λ _. refl) refl) o.idle_state));
       idle_runs = λ q. rw (w.after idle, eq-eqb i idle q);
       budgets = λ j d. rw (switched_budget b i (switch_to c b).threads w j d) (o.budgets j (switched_has b i (switch_to c b).threads w j d));
       few_exits = o.few_exits;
-      causes = o.causes;
     }

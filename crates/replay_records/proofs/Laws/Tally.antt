@@ -1,8 +1,8 @@
 -- The laws of `Tally`: one that leaves room for the blocks to come still does with one block more, and then has fewer to come. Assumes nothing.
-use Rattle.std.specs.Prelude.{◌≡◌, Bool, true, false, cond, List, ◌++◌, ℕ, ◌+◌, ◌*◌, ◌-◌, ◌/◌, ◌%◌, ◌≤◌, ◌<◌, eqb, length, drop}
-use Rattle.std.proofs.Common.{div-le_self, div-mul-le_self, arith, drop_at, eq-eqb, ne_eqb}
+use Rattle.std.specs.Prelude.{◌≡◌, Bool, true, false, cond, ℕ, ◌+◌, ◌-◌, ◌/◌, ◌%◌, ◌≤◌, ◌<◌, eqb}
+use Rattle.std.proofs.Common.{div-le_self, arith, eq-eqb, ne_eqb}
 use Rattle.replay_records.specs.declared.Tally.{Tally}
-use Rattle.replay_records.specs.Tally.{block_bytes, cut, added, Room, Counted}
+use Rattle.replay_records.specs.Tally.{block_bytes, cut, added, Room}
 
 -- records of a block
 pub records_few : (n size : ℕ) → n ≤ 65_536 → n / size ≤ 65_536
@@ -38,20 +38,3 @@ added_room t n size d r h k m =
     let few = records_few n size k in
     let left = left_most (eqb n (block_bytes size)) t.blocks h in
     (omega (arith, r.0, few, left), omega (arith, r.1, few, left, m, one_most (eqb (n % size) 0)))
-
--- a block that was counted
-pub counted : (size : ℕ) (differ : List ℕ → (m d : ℕ) → Type 0) (l : List ℕ) (t t' : Tally) (n d : ℕ) → Room t → 0 < t.blocks → n ≤ 65_536 → n ≤ length l → d ≤ n / size
-    → differ l (n / size) d → t' ≡ added t n size d → Counted size differ t t' × (Room t' × (t'.blocks < t.blocks))
-counted size differ l t t' n d r b k w m h e = (
-  record { bytes = l; n = n; d = d; within = w; different = h; counted = e },
-  rw e (added_room t n size d r b k m, added_fewer t n size d b),
-)
-
--- a part of the first m bytes was written: the bytes behind it stay
-pub behind_kept : (k m : ℕ) (xs l : List ℕ) → m ≡ k → length xs ≡ m → drop k (xs ++ drop m l) ≡ drop k l
-behind_kept k m xs l e h = rw (← e) (drop_at xs (drop m l) m h)
-
--- a block fits the buffer
-pub block_fits : (n size : ℕ) → n ≤ block_bytes size → n ≤ 65_536
-unfolding block_bytes
-block_fits n size h = let t : 65_536 / size * size ≤ 65_536 = div-mul-le_self 65_536 size in omega (arith, h, t)

@@ -17,9 +17,9 @@ taken a k n xs ys within fits =
     ∙ ap (λ l. take a xs ++ take n l) (drop_at (take a xs) (ys ++ after) a (length-take-le a xs within))
     ∙ ap (λ l. take a xs ++ l) (take-append-le n ys after fits)
 
-pub loop-done-preserved : goal.loop-done-preserved
-loop-done-preserved g c = record {
+pub loop-bytes-preserved : goal.loop-bytes-preserved
+loop-bytes-preserved g c = record {
   within = search rules;
-  bytes = subst (Consumes _ _) (sym (taken _ _ _ _ _ c.loop-done.invariant.within c.in-Ok.ensures.bound.0))
-      (Consumes-trans _ _ _ _ _ c.loop-done.invariant.bytes c.in-Ok.ensures.bytes.0);
+  bytes = subst (Consumes _ _) (sym (taken _ _ _ _ _ c.loop-bytes.invariant.within c.in-Ok.ensures.bound.0))
+      (Consumes-trans _ _ _ _ _ c.loop-bytes.invariant.bytes c.in-Ok.ensures.bytes.0);
 }

@@ -11,7 +11,7 @@ const DECLARED: &str = include_str!("../../../carv-sys/src/functions.rs");
 const DEFINED: &str = include_str!("../../../carv-sys/src/constants.rs");
 const CALLED: &str = include_str!("../../src/ffi.rs");
 const REFUSALS: &str = include_str!("../../src/refusal.rs");
-const CODE: &str = include_str!("../../../../crates/carv_objects/src/refused.rt");
+const CODE: &str = include_str!("../../../../crates/carv_objects/src/refusal.rt");
 const LAYOUT: &str = include_str!("../../../../docs/LAYOUT.md");
 const DEFINITIONS: &str = include_str!("../../../../crates/carv_objects_spec/specs/Refused.antt");
 
@@ -233,15 +233,18 @@ fn variants_in_wrapper() -> Vec<String> {
     names.flatten().map(upper).collect()
 }
 
-/// The refusals of the code: every line of that file is one, or a comment.
+/// The refusals of the code: every line of the enum is one, or a comment.
 fn refusals_in_code() -> Refusals {
+    let (_, body) = CODE.split_once("pub enum Refusal {").expect("the enum");
+    let (body, _) = body.split_once("\n}").expect("its end");
+    let lines = body.lines().map(str::trim);
     let is_code = |line: &&str| !line.is_empty() && !line.starts_with("//");
-    let named = CODE.lines().filter(is_code).map(|line| {
-        let constant = line.strip_prefix("pub const ");
-        let constant = constant.and_then(|constant| constant.strip_suffix(';'));
-        let named = constant.and_then(|constant| constant.split_once(": u64 = "));
+    let named = lines.filter(is_code).map(|line| {
+        let named = line
+            .strip_suffix(',')
+            .and_then(|line| line.split_once(" = "));
         let (name, number) = named.unwrap_or_else(|| panic!("no refusal: {line}"));
-        (name.to_string(), parsed(number, line))
+        (upper(name), parsed(number, line))
     });
     named.collect()
 }

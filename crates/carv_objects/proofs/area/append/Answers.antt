@@ -6,10 +6,15 @@ use Rattle.carv_objects.specs.Laws.Formed.{length_table}
 use Rattle.carv_objects.specs.Laws.AreaSteps.{entry_appended}
 use Rattle.carv_objects.proofs.area.append.Goals as goal
 
-pub append_entry-requires : goal.append_entry-requires
+pub append_entry-requires-clause-stored : goal.append_entry-requires-clause-stored
 unfolding table
-append_entry-requires c =
-    record { stored = c.requires.well_formed.rows; t_in_bounds = omega (arith, length_table c.args.a.now c.requires.well_formed.size, c.requires.a_len_bound.0) }
+append_entry-requires-clause-stored c =
+    c.requires.well_formed.rows
+
+pub append_entry-requires-clause-t_in_bounds : goal.append_entry-requires-clause-t_in_bounds
+unfolding table
+append_entry-requires-clause-t_in_bounds c =
+    omega (arith, length_table c.args.a.now c.requires.well_formed.size, c.requires.a_len_bound.0)
 
 pub returns : goal.returns
 unfolding table

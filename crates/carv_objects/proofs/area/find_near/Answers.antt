@@ -3,10 +3,10 @@ use Rattle.carv_objects.specs.Area.{table}
 use Rattle.carv_objects.specs.Laws.AreaSteps.{table_keyed, found_is}
 use Rattle.carv_objects.proofs.area.find_near.Goals as goal
 
-pub find_near-requires : goal.find_near-requires
+pub invariant_of-find_near : goal.invariant_of-find_near
 unfolding table
-find_near-requires c =
-    table_keyed _ c.requires
+invariant_of-find_near c =
+    record { keyed = table_keyed _ c.requires }
 
 pub returns : goal.returns
 unfolding table

@@ -8,7 +8,7 @@ use Rattle.carv_objects.proofs.area.take_out.Goals as goal
 pub remove_row-requires : goal.remove_row-requires
 unfolding table
 remove_row-requires c =
-    record { w_in_bounds = remove_room _ c.requires.well_formed; i_bound = remove_within _ c.requires.well_formed _ c.requires.i_in_bounds }
+    record { rows_fit = remove_room _ c.requires.well_formed; is_row = remove_within _ c.requires.well_formed _ c.requires.i_in_bounds }
 
 pub returns : goal.returns
 unfolding table

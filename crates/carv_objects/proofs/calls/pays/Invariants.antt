@@ -8,7 +8,7 @@ use Rattle.carv_objects.specs.Area.{decode}
 use Rattle.carv_objects.proofs.calls.pays.Given as goal
 
 abbrev pub invariant-loop-i : goal.invariant-loop-i
-invariant-loop-i l = (l.n ≡ length (decode l.a).rows) × (pays_in (drop l.i (decode l.a).rows) l.id ≡ pays_for (decode l.a) l.id)
+invariant-loop-i l = (l.i-end ≡ length (decode l.a).rows) × (pays_in (drop l.i (decode l.a).rows) l.id ≡ pays_for (decode l.a) l.id)
 
 abbrev pub decreases-loop-i : goal.decreases-loop-i
-decreases-loop-i l = l.n - l.i
+decreases-loop-i l = l.i-end - l.i

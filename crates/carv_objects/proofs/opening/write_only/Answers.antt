@@ -3,9 +3,13 @@ use mathlib.Core.Path.{refl}
 use Rattle.carv_objects.specs.Laws.Opening.{cleared_stored, cleared_room, only_row}
 use Rattle.carv_objects.proofs.opening.write_only.Goals as goal
 
-pub append_entry-requires : goal.append_entry-requires
-append_entry-requires c =
-    record { stored = cleared_stored c.args.t.now _ c.requires _ refl c.clear.ensures.words; t_in_bounds = cleared_room c.args.t.now _ c.requires _ refl c.clear.ensures.words c.clear.auto.t }
+pub append_entry-requires-clause-stored : goal.append_entry-requires-clause-stored
+append_entry-requires-clause-stored c =
+    cleared_stored c.args.t.now _ c.requires _ refl c.clear.ensures.words
+
+pub append_entry-requires-clause-t_in_bounds : goal.append_entry-requires-clause-t_in_bounds
+append_entry-requires-clause-t_in_bounds c =
+    cleared_room c.args.t.now _ c.requires _ refl c.clear.ensures.words c.clear.auto.t
 
 pub returns : goal.returns
 returns c =

@@ -4,4 +4,4 @@ use Rattle.carv_objects.proofs.rows.write_entry.Goals as goal
 
 pub returns : goal.returns
 returns c =
-    row_set _ _ _ _ _ _ _ _ _ c.put.ensures.words c.put-2.ensures.words c.put-3.ensures.words c.put-4.ensures.words c.write_account.ensures
+    row_set _ _ _ _ _ _ _ _ _ c.put.ensures.words (rw c.code.ensures at c.put-2.ensures.words) c.put-3.ensures.words c.put-4.ensures.words c.write_account.ensures

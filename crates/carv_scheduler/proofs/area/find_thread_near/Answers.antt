@@ -3,10 +3,10 @@ use Rattle.carv_scheduler.specs.Area.{threads_part}
 use Rattle.carv_scheduler.specs.Laws.AreaSteps.{threads_keyed, thread_found}
 use Rattle.carv_scheduler.proofs.area.find_thread_near.Goals as goal
 
-pub find_near-requires : goal.find_near-requires
+pub invariant_of-find_near : goal.invariant_of-find_near
 unfolding threads_part
-find_near-requires c =
-    threads_keyed _ c.requires
+invariant_of-find_near c =
+    record { keyed = threads_keyed _ c.requires }
 
 pub returns : goal.returns
 unfolding threads_part

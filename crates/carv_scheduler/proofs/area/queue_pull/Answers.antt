@@ -8,9 +8,9 @@ use Rattle.carv_scheduler.proofs.area.queue_pull.Goals as goal
 pub pull-requires : goal.pull-requires
 unfolding queue_part
 pull-requires c =
-    record { queue = c.requires.well_formed.queue; i_in_bounds = c.requires.i_in_bounds }
+    record { queue = c.requires.well_formed.queue; is_place = c.requires.i_in_bounds }
 
 pub returns : goal.returns
 unfolding queue_part
 returns c =
-    (c.pull.ensures.value, queue_written _ c.requires.well_formed _ _ (c.pull.auto.t ∙ length_queue c.args.a.now c.requires.well_formed.size) c.pull.ensures.queue_2)
+    (c.pull.ensures.value, queue_written _ c.requires.well_formed _ _ (c.pull.auto.t ∙ length_queue c.args.a.now c.requires.well_formed.size) c.pull.ensures.pulled)

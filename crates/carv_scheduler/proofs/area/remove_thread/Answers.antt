@@ -7,7 +7,7 @@ use Rattle.carv_scheduler.proofs.area.remove_thread.Goals as goal
 pub remove_row-requires : goal.remove_row-requires
 unfolding threads_part
 remove_row-requires c =
-    record { w_in_bounds = threads_room _ c.requires.well_formed; i_bound = thread_counted _ c.requires.well_formed _ c.requires.i_in_bounds }
+    record { rows_fit = threads_room _ c.requires.well_formed; is_row = thread_counted _ c.requires.well_formed _ c.requires.i_in_bounds }
 
 pub returns : goal.returns
 unfolding threads_part

@@ -13,4 +13,4 @@ write_state-requires c =
 pub returns : goal.returns
 unfolding threads_part
 returns c =
-    thread_state _ c.requires.well_formed _ c.requires.i_in_bounds _ (c.write_state.auto.t ∙ length_threads c.args.a.now c.requires.well_formed.size) _ _ c.write_state.ensures
+    thread_state _ c.requires.well_formed _ c.requires.i_in_bounds _ (c.write_state.auto.t ∙ length_threads c.args.a.now c.requires.well_formed.size) _ c.write_state.ensures

@@ -1,40 +1,43 @@
 -- `carv_scheduler::calls::block_current` meets its contract. Assumes nothing.
-use Rattle.std.proofs.Common.{sym, refl, ◌∙◌}
-use Rattle.carv_objects.proofs.Rules.{said_not, said_so}
+use Rattle.std.proofs.Common.{sym, refl, ◌∙◌, arith}
+use Rattle.carv_scheduler.proofs.Rules.{met, missed}
+use Rattle.std.proofs.lemmas.Grind.{common_steps}
+use Rattle.carv_scheduler_spec.proofs.Laws.Codes.{wait_unlisted, wait_known, wait_named}
+use Rattle.carv_objects.specs.declared.refusal.Refusal.TheVariants.{Code, State}
 use Rattle.carv_scheduler_spec.proofs.Laws.Kept.{block_current_kept}
+use Rattle.carv_scheduler_spec.specs.Scheduler.{running}
+use Rattle.carv_scheduler_spec.proofs.Laws.Equal.{equal_running, differs, agrees}
 use Rattle.carv_scheduler.specs.Laws.Formed.{leaves_as}
 use Rattle.carv_scheduler.specs.Laws.AreaLaws.{area_formed, area_sound}
-use Rattle.carv_scheduler.specs.Laws.Calls.{refused, answered}
-use Rattle.carv_scheduler.specs.Laws.CallSteps.{here_is, here_not, blocked_current}
+use Rattle.carv_scheduler.specs.Laws.Calls.{refused, refused_by, answered}
+use Rattle.carv_scheduler.specs.Laws.CallSteps.{here_state, blocked_current}
 use Rattle.carv_scheduler_spec.proofs.Laws.Questions.{block_unlisted, block_other, block_idle, block_done}
 use Rattle.carv_scheduler.specs.Area.{decode}
-use mathlib.Core.Path.{ap}
-use mathlib.Core.Bool.{not}
 use Rattle.carv_scheduler.proofs.calls.block_current.Goals as goal
+use Rattle.carv_scheduler.proofs.calls.block_current.Goals.{then-ne-via-then-ne, then-ne-via-else-ne+then-current}
 
-pub returns-then-not-is_wait_listed : goal.returns-then-not-is_wait_listed
-returns-then-not-is_wait_listed c =
-    refused _ _ c.requires 4 (block_unlisted c.args.kind c.args.number (decode c.args.a.now) (said_not _ _ c.is_wait_listed.ensures (ap not c.if-not-is_wait_listed.true)))
+pub returns-in_err-wait : goal.returns-in_err-wait
+returns-in_err-wait c =
+    refused_by _ _ c.requires Code (block_unlisted c.args.kind c.args.number (decode c.args.a.now) (wait_unlisted c.args.kind c.args.number c.from_code.result c.from_code.ensures (missed c.ok_or.ensures.ok_part c.in_err-wait.was))) _ (grind (arith, common_steps))
 
 pub current_place-i-requires : goal.current_place-i-requires
 current_place-i-requires c =
     c.requires
 
-pub thread_at-t-requires : goal.thread_at-t-requires
-thread_at-t-requires c =
+pub state_at-requires : goal.state_at-requires
+state_at-requires c =
     record { well_formed = area_formed _ c.requires; i_in_bounds = c.current_place-i.ensures.within }
 
-pub returns-then-t-ne-RUNNING : goal.returns-then-t-ne-RUNNING
-returns-then-t-ne-RUNNING c =
-    refused _ _ c.requires 8 (block_other c.args.kind c.args.number (decode c.args.a.now) (said_so _ _ c.is_wait_listed.ensures (ap not c.if-not-is_wait_listed.false)) (here_not (decode c.args.a.now).threads _ _ c.current_place-i.ensures _ c.thread_at-t.ensures 3 c.if-t-ne-RUNNING.true))
+pub returns-then-ne : goal.returns-then-ne
+returns-then-ne c =
+    refused _ _ c.requires State (elim c.then-ne.branch [
+      | then-ne-via-then-ne w ↦ block_other c.args.kind c.args.number (decode c.args.a.now) (wait_known c.args.kind c.args.number c.from_code.result c.from_code.ensures _ (met c.ok_or.ensures.ok_part c.in_ok-wait.was)) (here_state (decode c.args.a.now).threads _ _ c.current_place-i.ensures running _ c.state_at.ensures ∙ differs _ _ _ c.ne.ensures (equal_running c.state_at.result) w.if-ne.true)
+      | then-ne-via-else-ne+then-current w ↦ block_idle c.args.kind c.args.number (decode c.args.a.now) (wait_known c.args.kind c.args.number c.from_code.result c.from_code.ensures _ (met c.ok_or.ensures.ok_part c.in_ok-wait.was)) (here_state (decode c.args.a.now).threads _ _ c.current_place-i.ensures running _ c.state_at.ensures ∙ agrees _ _ _ c.ne.ensures (equal_running c.state_at.result) w.if-ne.false) (sym w.current.ensures ∙ w.if-current.true)
+    ])
 
 pub current-requires : goal.current-requires
 current-requires c =
     (area_formed _ c.requires).size
-
-pub returns-then-current : goal.returns-then-current
-returns-then-current c =
-    refused _ _ c.requires 8 (block_idle c.args.kind c.args.number (decode c.args.a.now) (said_so _ _ c.is_wait_listed.ensures (ap not c.if-not-is_wait_listed.false)) (here_is (decode c.args.a.now).threads _ _ c.current_place-i.ensures _ c.thread_at-t.ensures 3 c.if-t-ne-RUNNING.false) (sym c.current.ensures ∙ c.if-current.true))
 
 pub set_state-requires : goal.set_state-requires
 set_state-requires c =
@@ -42,5 +45,5 @@ set_state-requires c =
 
 pub returns : goal.returns
 returns c =
-    answered _ _ c.requires _ (block_done c.args.kind c.args.number (decode c.args.a.now) (said_so _ _ c.is_wait_listed.ensures (ap not c.if-not-is_wait_listed.false)) (here_is (decode c.args.a.now).threads _ _ c.current_place-i.ensures _ c.thread_at-t.ensures 3 c.if-t-ne-RUNNING.false) (λ q. c.if-current.false (c.current.ensures ∙ q))) _ refl refl _
-    (leaves_as _ _ _ (blocked_current (decode c.args.a.now) _ _ _ c.current_place-i.ensures) c.set_state.ensures) (block_current_kept c.args.kind c.args.number (decode c.args.a.now) (area_sound _ c.requires))
+    answered _ _ c.requires _ (block_done c.args.kind c.args.number (decode c.args.a.now) (wait_known c.args.kind c.args.number c.from_code.result c.from_code.ensures _ (met c.ok_or.ensures.ok_part c.in_ok-wait.was)) (here_state (decode c.args.a.now).threads _ _ c.current_place-i.ensures running _ c.state_at.ensures ∙ agrees _ _ _ c.ne.ensures (equal_running c.state_at.result) c.if-ne.false) (λ q. c.if-current.false (c.current.ensures ∙ q))) _ refl refl _
+    (leaves_as _ _ _ (blocked_current (decode c.args.a.now) _ c.args.kind c.args.number c.current_place-i.ensures _ (wait_named c.args.kind c.args.number c.from_code.result c.from_code.ensures _ (met c.ok_or.ensures.ok_part c.in_ok-wait.was))) c.set_state.ensures) (block_current_kept c.args.kind c.args.number (decode c.args.a.now) (area_sound _ c.requires))

@@ -7,7 +7,7 @@ use Rattle.carv_scheduler.proofs.exits.drop_oldest.Goals as goal
 pub remove_row-requires : goal.remove_row-requires
 unfolding exits_part
 remove_row-requires c =
-    record { w_in_bounds = exits_room _ c.requires.well_formed; i_bound = exit_counted _ c.requires.well_formed _ c.requires.exits_nonzero }
+    record { rows_fit = exits_room _ c.requires.well_formed; is_row = exit_counted _ c.requires.well_formed _ c.requires.exits_nonzero }
 
 pub returns : goal.returns
 unfolding exits_part

@@ -9,8 +9,8 @@ returns-in_default c =
 
 pub queue_pull-requires : goal.queue_pull-requires
 queue_pull-requires c =
-    record { well_formed = c.requires.well_formed; i_in_bounds = (queue_here (decode c.args.a.now).queue _ _ c.queue_find.ensures _ c.in-At.is).0 }
+    record { well_formed = c.requires.well_formed; i_in_bounds = (queue_here (decode c.args.a.now).queue _ _ c.queue_find.ensures _ c.in-Some.is).0 }
 
-pub returns : goal.returns
-returns c =
-    queue_left c.args.a.now _ _ ((queue_here (decode c.args.a.now).queue _ _ c.queue_find.ensures _ c.in-At.is).1 c.requires.a_value) _ c.queue_pull.ensures.1
+pub returns-in-Some : goal.returns-in-Some
+returns-in-Some c =
+    queue_left c.args.a.now _ _ ((queue_here (decode c.args.a.now).queue _ _ c.queue_find.ensures _ c.in-Some.is).1 c.requires.a_value) _ c.queue_pull.ensures.1

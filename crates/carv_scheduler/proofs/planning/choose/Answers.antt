@@ -4,12 +4,12 @@ use Rattle.carv_scheduler.proofs.planning.choose.Goals as goal
 
 pub queue_pull-id-requires : goal.queue_pull-id-requires
 queue_pull-id-requires c =
-    record { well_formed = c.walk.ensures.area.formed; i_in_bounds = chooses_within _ _ _ _ c.walk.ensures _ _ c.in-At.is }
+    record { well_formed = c.walk.ensures.area.formed; i_in_bounds = chooses_within _ _ _ _ c.walk.ensures _ _ c.in-Some.is }
 
-pub returns-in-At : goal.returns-in-At
-returns-in-At c =
-    chooses_at _ _ _ _ c.walk.ensures _ _ c.in-At.is _ c.queue_pull-id.ensures.0 _ c.queue_pull-id.ensures.1
+pub returns-in-Some : goal.returns-in-Some
+returns-in-Some c =
+    chooses_at _ _ _ _ c.walk.ensures _ _ c.in-Some.is _ c.queue_pull-id.ensures.0 _ c.queue_pull-id.ensures.1
 
-pub returns-in-Idle : goal.returns-in-Idle
-returns-in-Idle c =
-    chooses_idle _ _ _ _ c.walk.ensures c.in-Idle.is _ c.find_thread-at.ensures
+pub returns-in-None : goal.returns-in-None
+returns-in-None c =
+    chooses_idle _ _ _ _ c.walk.ensures c.in-None.is _ c.find_thread-at.ensures

@@ -5,10 +5,10 @@ use Rattle.carv_scheduler.specs.Laws.Planning.{tests_free, tests_budget}
 use Rattle.carv_scheduler.specs.Area.{decode}
 use Rattle.carv_scheduler.proofs.planning.has_time.Goals as goal
 
-pub returns-then-thread_word-eq0 : goal.returns-then-thread_word-eq0
-returns-then-thread_word-eq0 c =
-    tests_free _ _ c.requires.well_formed (get_or (decode c.args.a.now).threads c.args.i no_row).it.budget _ c.thread_word.ensures c.if-thread_word-eq0.true
+pub returns-in-None : goal.returns-in-None
+returns-in-None c =
+    tests_free _ _ c.requires.well_formed (get_or (decode c.args.a.now).threads c.args.i no_row).it.budget _ c.budget_at.ensures c.in-None.is
 
-pub returns : goal.returns
-returns c =
-    tests_budget _ _ c.requires.well_formed (get_or (decode c.args.a.now).threads c.args.i no_row).it.budget _ c.thread_word.ensures c.if-thread_word-eq0.false _ c.thread_word-budget.ensures _ _ c.renew.ensures
+pub returns-in-Some : goal.returns-in-Some
+returns-in-Some c =
+    tests_budget _ _ c.requires.well_formed (get_or (decode c.args.a.now).threads c.args.i no_row).it.budget _ c.budget_at.ensures _ c.in-Some.is _ _ c.renew.ensures

@@ -12,12 +12,12 @@ returns-then-not-killed c =
 
 pub remove_thread-requires : goal.remove_thread-requires
 remove_thread-requires c =
-    record { well_formed = c.requires; i_in_bounds = (found_here (decode c.args.a.now).threads c.args.id _ c.find_thread.ensures _ c.in-At.is).within }
+    record { well_formed = c.requires; i_in_bounds = (found_here (decode c.args.a.now).threads c.args.id _ c.find_thread.ensures _ c.in-Some.is).within }
 
-pub returns-in-At : goal.returns-in-At
-returns-in-At c =
-    leaves_at _ c.requires c.args.id c.args.killed (ap not c.if-not-killed.false) _ (found_here (decode c.args.a.now).threads c.args.id _ c.find_thread.ensures _ c.in-At.is) _ c.remove_thread.ensures
+pub returns-in-Some : goal.returns-in-Some
+returns-in-Some c =
+    leaves_at _ c.requires c.args.id c.args.killed (ap not c.if-not-killed.false) _ (found_here (decode c.args.a.now).threads c.args.id _ c.find_thread.ensures _ c.in-Some.is) _ c.remove_thread.ensures
 
-pub returns-in-Nothing : goal.returns-in-Nothing
-returns-in-Nothing c =
-    leaves_gone _ c.requires c.args.id c.args.killed (ap not c.if-not-killed.false) (found_gone (decode c.args.a.now).threads c.args.id _ c.find_thread.ensures c.in-Nothing.is)
+pub returns-in_default : goal.returns-in_default
+returns-in_default c =
+    leaves_gone _ c.requires c.args.id c.args.killed (ap not c.if-not-killed.false) (found_gone (decode c.args.a.now).threads c.args.id _ c.find_thread.ensures c.in_default.is)

@@ -1,11 +1,10 @@
--- `carv_scheduler::planning::walk` meets its contract. The loop's invariant: what is left to do from place k gives the whole answer.
--- The measure is the number of places left. Assumes nothing.
+-- `carv_scheduler::planning::walk` meets its contract. The loop's invariant: what is left to do from place k gives the whole answer. Assumes nothing.
 use Rattle.carv_scheduler.specs.Laws.Planning.{turn_starts, turn_within, turn_found, turn_on, turn_ends}
 use Rattle.carv_scheduler.proofs.planning.walk.Goals as goal
 
 pub loop-k-init : goal.loop-k-init
 loop-k-init c =
-    turn_starts _ _ c.requires _ c.queue_length-n.ensures
+    turn_starts _ _ c.requires _ c.queue_length-k-end.ensures
 
 pub queue_at-id-requires : goal.queue_at-id-requires
 queue_at-id-requires c =
@@ -19,9 +18,9 @@ pub try_thread-requires : goal.try_thread-requires
 try_thread-requires c =
     record { well_formed = c.loop-k.invariant.formed; located = c.find_thread_near-at.ensures }
 
-pub returns-in-At : goal.returns-in-At
-returns-in-At c =
-    turn_found _ _ _ _ _ c.loop-k.invariant c.loop-k-test.true _ c.queue_at-id.ensures _ _ c.try_thread.ensures _ c.in-At.is
+pub returns-in-Some : goal.returns-in-Some
+returns-in-Some c =
+    turn_found _ _ _ _ _ c.loop-k.invariant c.loop-k-test.true _ c.queue_at-id.ensures _ _ c.try_thread.ensures _ c.in-Some.is
 
 pub loop-k-preserved : goal.loop-k-preserved
 loop-k-preserved c =

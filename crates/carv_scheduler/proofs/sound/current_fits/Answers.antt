@@ -11,16 +11,16 @@ returns-in_default c =
 
 pub overflow_mul-i : goal.overflow_mul-i
 overflow_mul-i c =
-    let s = stands (words c.args.t.now) _ _ c.find.ensures _ c.in-At.is in omega (arith, s.inside, c.requires.room)
+    let s = stands (words c.args.t.now) _ _ c.find.ensures _ c.in-Some.is in omega (arith, s.inside, c.requires.room)
 
 pub overflow_add-i : goal.overflow_add-i
 overflow_add-i c =
-    let s = stands (words c.args.t.now) _ _ c.find.ensures _ c.in-At.is in omega (arith, s.inside, c.requires.room)
+    let s = stands (words c.args.t.now) _ _ c.find.ensures _ c.in-Some.is in omega (arith, s.inside, c.requires.room)
 
 pub get-requires : goal.get-requires
 get-requires c =
-    let s = stands (words c.args.t.now) _ _ c.find.ensures _ c.in-At.is in omega (arith, s.inside, c.requires.room)
+    let s = stands (words c.args.t.now) _ _ c.find.ensures _ c.in-Some.is in omega (arith, s.inside, c.requires.room)
 
 pub returns : goal.returns
 returns c =
-    current_tells (words c.args.t.now) _ _ _ (stands (words c.args.t.now) _ _ c.find.ensures _ c.in-At.is) c.get.ensures
+    current_tells (words c.args.t.now) _ _ _ (stands (words c.args.t.now) _ _ c.find.ensures _ c.in-Some.is) c.get.ensures

@@ -22,13 +22,13 @@ pub loop-i-init : goal.loop-i-init
 loop-i-init c =
     (omega arith, λ k l. absurd (omega arith))
 
-pub returns-then-not-is_cause : goal.returns-then-not-is_cause
-returns-then-not-is_cause c =
-    record { so = λ e. absurd (false≢true e); not = λ e S. false≢true (sym (said_not _ _ c.is_cause.ensures (ap not c.if-not-is_cause.true)) ∙ ap (λ (x : ℕ). cause_listed x) c.get-cause.ensures ∙ exit_listed S c.loop-i.i (omega arith)) }
+pub returns-then-not-is_listed : goal.returns-then-not-is_listed
+returns-then-not-is_listed c =
+    record { so = λ e. absurd (false≢true e); not = λ e S. false≢true (sym (said_not _ _ c.is_listed.ensures (ap not c.if-not-is_listed.true)) ∙ ap (λ (x : ℕ). cause_listed x) c.get.ensures ∙ exit_listed S c.loop-i.i (omega arith)) }
 
 pub loop-i-preserved : goal.loop-i-preserved
 loop-i-preserved c =
-    (omega arith, one_more (Listed (words c.args.x.now)) c.loop-i.i c.loop-i.invariant.1 (sym (ap (λ (x : ℕ). cause_listed x) c.get-cause.ensures) ∙ said_so _ _ c.is_cause.ensures (ap not c.if-not-is_cause.false)))
+    (omega arith, one_more (Listed (words c.args.x.now)) c.loop-i.i c.loop-i.invariant.1 (sym (ap (λ (x : ℕ). cause_listed x) c.get.ensures) ∙ said_so _ _ c.is_listed.ensures (ap not c.if-not-is_listed.false)))
 
 pub returns : goal.returns
 returns c =

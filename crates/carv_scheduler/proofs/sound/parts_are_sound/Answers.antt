@@ -1,5 +1,5 @@
 -- `carv_scheduler::sound::parts_are_sound` meets its contract. Assumes nothing.
-use Rattle.std.proofs.Common.{arith}
+use Rattle.std.proofs.Common.{sym, ◌∙◌, arith}
 use mathlib.Core.Bool.{false≢true}
 use Rattle.carv_scheduler.specs.Area.{threads_part, queue_part, exits_part}
 use Rattle.carv_scheduler.specs.Laws.AreaSteps.{length_threads, length_queue}
@@ -22,20 +22,20 @@ unfolding threads_part queue_part exits_part
 tables_are_sound-requires c =
     record { t_len = length_threads c.args.area.now c.requires; q_len = length_queue c.args.area.now c.requires }
 
-pub returns-then-not-tables_are_sound : goal.returns-then-not-tables_are_sound
+pub returns-else-tables_are_sound : goal.returns-else-tables_are_sound
 unfolding threads_part queue_part exits_part
-returns-then-not-tables_are_sound c =
-    record { so = λ e. absurd (false≢true e); not = λ e. parts_no c.args.area.now _ c.current-current.ensures (c.tables_are_sound.ensures.not c.if-not-tables_are_sound.true) }
+returns-else-tables_are_sound c =
+    record { so = λ e. absurd (false≢true (sym c.if-tables_are_sound.false ∙ e)); not = λ e. parts_no c.args.area.now _ c.current-current.ensures (c.tables_are_sound.ensures.not c.if-tables_are_sound.false) }
 
 pub slice_bounds-exits_are_sound-end : goal.slice_bounds-exits_are_sound-end
 unfolding threads_part queue_part exits_part
 slice_bounds-exits_are_sound-end c =
     omega (arith, c.requires)
 
-pub returns : goal.returns
+pub returns-then-tables_are_sound : goal.returns-then-tables_are_sound
 unfolding threads_part queue_part exits_part
-returns c =
-    parts_tell c.args.area.now _ c.current-current.ensures (c.tables_are_sound.ensures.so c.if-not-tables_are_sound.false) _ c.exits_are_sound.ensures
+returns-then-tables_are_sound c =
+    parts_tell c.args.area.now _ c.current-current.ensures (c.tables_are_sound.ensures.so c.if-tables_are_sound.true) _ c.exits_are_sound.ensures
 
 pub exits_are_sound-requires : goal.exits_are_sound-requires
 unfolding threads_part queue_part exits_part

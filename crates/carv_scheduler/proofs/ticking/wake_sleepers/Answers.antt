@@ -1,17 +1,16 @@
--- `carv_scheduler::ticking::wake_sleepers` meets its contract. The loop's invariant: waking the threads from place i on gives the whole. The measure is the number
--- of places left. Assumes nothing.
+-- `carv_scheduler::ticking::wake_sleepers` meets its contract. The loop's invariant: waking the threads from place i on gives the whole. Assumes nothing.
 use Rattle.std.proofs.Common.{sym, ◌∙◌}
 use Rattle.carv_scheduler.specs.Laws.AreaLaws.{area_formed}
 use Rattle.carv_scheduler.specs.Laws.Waking.{waking_starts, waking_place, waking_on, waking_ends}
 use Rattle.carv_scheduler.proofs.ticking.wake_sleepers.Goals as goal
 
-pub thread_count-m-requires : goal.thread_count-m-requires
-thread_count-m-requires c =
+pub thread_count-i-end-requires : goal.thread_count-i-end-requires
+thread_count-i-end-requires c =
     area_formed _ c.requires
 
 pub loop-i-init : goal.loop-i-init
 loop-i-init c =
-    waking_starts _ _ _ c.requires c.thread_count-m.ensures
+    waking_starts _ _ _ c.requires c.thread_count-i-end.ensures
 
 pub wake_at-requires : goal.wake_at-requires
 wake_at-requires c =
