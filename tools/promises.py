@@ -10,7 +10,7 @@ names from the section "Demands" on; the columns "01 says" and "02 says" are lef
                                        carv_scheduler; so are names in brackets
     carv/File.name                     in such a file of carv; register_image/File.name in that of carv_register_image
     scheduler/File, carv/File, register_image/File     that there is such a file
-    rust.name, some_name               in specs/, Laws/ and proofs/Rules.antt of carv_budget; some_name may also be a crate, or a function, field or argument of any
+    rust.name, some_name               in specs/ and Laws/ of carv_budget; some_name may also be a crate, or a function, field or argument of any
                                        src/ or of host/, which decides nothing
     module::f, scheduler/module::f     in src/module.rt of carv_objects, carv_scheduler
     objects::f, scheduler::f           in src/lib.rt there, or passed on by it; carv_area::f, carv_register_image::f, carv::f in these
@@ -56,7 +56,7 @@ def defined(name, files):
     return has(r'^ *(?:(?:abbrev|unfoldable|pub|record|data) +)*%s(?: *$| *[:({])' % re.escape(name), text(*files))
 
 
-BUDGET = [*stands('carv_budget', '*'), 'crates/carv_budget/proofs/Rules.antt']
+BUDGET = stands('carv_budget', '*')
 
 
 def of_accounts(name):

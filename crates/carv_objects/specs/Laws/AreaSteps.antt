@@ -16,7 +16,7 @@ use Rattle.carv_area.specs.Keys.{keys, find_in}
 use Rattle.carv_area.specs.Stored.{Stored, Keyed}
 use Rattle.carv_area.specs.Laws.Stored.{stored_room, stored_remove}
 use Rattle.carv_area.specs.Lookup.{Located, Here, Gone}
-use Rattle.carv_budget.proofs.Laws.Account.{first}
+use Rattle.carv_budget.proofs.Laws.Account.{first, second}
 use Rattle.carv_objects_spec.specs.declared.Entry.{Entry}
 use Rattle.carv_objects_spec.specs.Kinds.{is_budget_kind}
 use Rattle.carv_objects_spec.specs.Registry.{Registry, or_missing, found, entry, has, is_budget, has_place, has_next}
@@ -171,6 +171,9 @@ gone_has r x h = ap found h.is
 module _ (r : Registry) (h : (has_place r && has_next r) ≡ true) where
   pub room_place : length r.rows < 512
   room_place = ltb-true (length r.rows) 512 (first (has_place r) (has_next r) h)
+
+  pub room_next : r.next < 18_446_744_073_709_551_615
+  room_next = ltb-true r.next 18_446_744_073_709_551_615 (second (has_place r) (has_next r) h)
 
 -- `add`: the next id rises, and the entry stands under the id that was next
 module _ (r : Registry) (x : ℕ) (q : x ≡ r.next) (e : Entry) where
