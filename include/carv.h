@@ -43,7 +43,7 @@
  *
  * Stack, registers and the C library
  *
- * A call takes at most 18,096 bytes of stack, its return address included. docs/LAYOUT.md has the
+ * A call takes at most 18,112 bytes of stack, its return address included. docs/LAYOUT.md has the
  * figure of each function. Nothing calls itself, and nothing is written below the stack pointer:
  * there is no red zone.
  *

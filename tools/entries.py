@@ -114,10 +114,16 @@ def c_function(name, params, definition, module, reading, answer, tells, comment
     before, left = ('now', 'now') if reading else ('old', 'new')
     text = '\n' + signature('pub fn carv_' + name, ['area: &[u8]' if reading else 'area: &mut [u8]'] + numbers + ['out: &mut [u64]'], 'u64')
     text += '    ensures { Exported %s area.%s out.old result area.%s out.new }\n' % (argument(spec), before, left)
-    text += '{\n    if out.len() != WORDS {\n        return Refusal::Unsound.number();\n    }\n' + made
-    text += '    let answer = carv_scheduler::%s(%s);\n    report(answer, out)\n}\n' % (name, ', '.join(['area'] + given))
-    answers = '== carv_%s\nuse Rattle.std.proofs.Common.{refl}\nuse Rattle.carv.proofs.Laws.Reporting.{returned}\n' % name
-    answers += 'returns := returned (λ x. refl) _ _ _ @if-out-ne-WORDS.false _ _ @%s-answer.ensures _ _ @report.ensures\n' % name
+    asked = '&mut || carv_scheduler::%s(%s)' % (name, ', '.join(['area'] + given))
+    text += '{\n%s    answered(%s)\n}\n' % (made, 'out, ' + asked if len(asked) <= 55 else '\n        out,\n        %s,\n    ' % asked)
+    told = 'in_board told.%s' % tells if module == REGISTRY else tells
+    answers = '== carv_%s\nuse Rattle.std.proofs.Common.{refl, of_calls}\n' % name
+    if module == REGISTRY:
+        answers += 'use Rattle.carv_objects.specs.Answer as told\nuse Rattle.carv_scheduler.specs.Answer.{in_board}\n'
+    else:
+        answers += 'use Rattle.carv_scheduler.specs.Answer.{%s}\n' % tells
+    answers += 'use Rattle.carv.proofs.Laws.Reporting.{called}\n'
+    answers += 'returns := called {tells = %s} (λ x. refl) (λ q. search rules) (λ q. search (rules, of_calls))\n' % told
     return text, answers
 
 

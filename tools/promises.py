@@ -1,5 +1,5 @@
 #!/usr/bin/env python3
-"""Looks up the names that docs/PROMISES.md cites, and prints each that is not in the tree.
+"""Looks up the names that docs/PROMISES.md cites, and prints each that is not in the tree, and each must-fail edit that no row names.
 
     tools/promises.py [ROOT]
 
@@ -29,7 +29,7 @@ import re
 import sys
 
 ROOT = pathlib.Path(sys.argv[1] if len(sys.argv) > 1 else pathlib.Path(__file__).resolve().parent.parent)
-CRATE = {None: 'carv_objects', 'carv_c': 'carv_c', 'objects': 'carv_objects', 'objects_spec': 'carv_objects_spec', 'scheduler': 'carv_scheduler', 'carv': 'carv', 'scheduler_spec': 'carv_scheduler_spec', 'area': 'carv_area', 'carv_area': 'carv_area', 'register_image': 'carv_register_image', 'carv_register_image': 'carv_register_image', 'replay_records': 'replay_records'}
+CRATE = {None: 'carv_objects', 'carv_c': 'carv_c', 'objects': 'carv_objects', 'objects_spec': 'carv_objects_spec', 'scheduler': 'carv_scheduler', 'carv': 'carv', 'scheduler_spec': 'carv_scheduler_spec', 'area': 'carv_area', 'carv_area': 'carv_area', 'register_image': 'carv_register_image', 'carv_register_image': 'carv_register_image', 'replay_records': 'replay_records', 'replay_accounts': 'replay_accounts', 'replay_objects': 'replay_objects', 'replay_board': 'replay_board'}
 SPECS = {None: 'carv_objects*', 'scheduler': 'carv_scheduler*', 'carv': 'carv', 'register_image': 'carv_register_image'}
 TICKED = re.compile(r'`([^`]+)`')
 
@@ -83,7 +83,7 @@ FORMS = [(re.compile(form), look) for form, look in [
     (r'[A-Z]\w*::(\w+)', lambda n: has(r'\b(?:fn|const) %s\b|^    %s\b' % (n, n), text('crates/*/src/*.rt'))),
     (r'(objects|scheduler|carv_area|carv_register_image|carv)::(\w+)', entry),
     (r'(?:(scheduler)/)?([a-z]\w*)::(\w+)', lambda c, m, n: function(n, 'crates/%s/src/%s.rt' % (CRATE[c], m))),
-    (r'(objects|objects_spec|scheduler_spec|scheduler|carv_c|carv|area|register_image|replay_records)/([a-z]\w*)', lambda c, n: exists('crates/%s/must-fail/%s.edit' % (CRATE[c], n))),
+    (r'(objects|objects_spec|scheduler_spec|scheduler|carv_c|carv|area|register_image|replay_(?:records|accounts|objects|board))/([a-z]\w*)', lambda c, n: exists('crates/%s/must-fail/%s.edit' % (CRATE[c], n))),
     (r'((?:struct|enum) \w+)', lambda n: has(n + r'\b', text('crates/*/src/*.rt'))),
     (r'(carv_(?!(?:c|area|budget|objects|objects_spec|register_image|scheduler|scheduler_spec)$)\w+)', lambda n: function(n, 'crates/carv/src/lib.rt')),
     (r'(\w+\.rt)', lambda n: exists('crates/*/src/' + n)),
@@ -156,8 +156,14 @@ def main():
                 missing.setdefault(name, {})[row] = True
     for name, where in sorted(missing.items()):
         print('%s: not there (%s)' % (name, ', '.join(where)))
-    print('%d names found, %d not there' % (len(found), len(missing)))
-    return 1 if missing else 0
+    short = {crate: name for name, crate in CRATE.items()}
+    short.update({'carv_objects': 'objects', 'carv_area': 'area', 'carv_register_image': 'register_image', 'carv_budget': ''})
+    edits = [(short[p.parent.parent.name] + '/' + p.stem).lstrip('/') for p in sorted(ROOT.glob('crates/*/must-fail/*.edit'))]
+    unnamed = [name for name in edits if name not in found]
+    for name in unnamed:
+        print('%s: an edit that no row names' % name)
+    print('%d names found, %d not there, %d of %d edits in no row' % (len(found), len(missing), len(unnamed), len(edits)))
+    return 1 if missing or unnamed else 0
 
 
 if __name__ == '__main__':

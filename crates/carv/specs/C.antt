@@ -2,6 +2,7 @@
 use Rattle.std.specs.Prelude.{◌≡◌, Bool, true, false, cond, ◌&&◌, List, [], ◌∷◌, ℕ, eqb, length, Option, Some, None, Result, Ok, Err}
 use Rattle.std.proofs.lemmas.List.Edits.{sets}
 use Rattle.carv_budget.specs.declared.Account.{Account}
+use Rattle.carv_budget.specs.Account.{figures}
 use Rattle.carv_objects_spec.specs.declared.Totals.{Totals}
 use Rattle.carv_objects_spec.specs.Reply as objects
 use Rattle.carv_objects.specs.declared.refusal.Refusal.{Refusal}
@@ -10,17 +11,16 @@ use Rattle.carv_scheduler_spec.specs.declared.Wait.{Wait}
 use Rattle.carv_scheduler_spec.specs.declared.Thread.{Thread}
 use Rattle.carv_scheduler_spec.specs.Scheduler.{Board, BoardReply, Value, of_registry, no_switch, switch, ended, is_blocked, record_of, word, exit_cause, kind_of, number_of}
 use Rattle.carv_scheduler_spec.specs.declared.Cause.{Cause}
-use Rattle.carv_scheduler_spec.specs.Codes.{is_word, state_word, kind_word, number_word, id_word, space_word, cspace_word, root_word, cause_word}
+use Rattle.carv_scheduler_spec.specs.Codes.{thread_words, cause_word}
 use Rattle.carv_scheduler_spec.specs.Book.{Call, on_objects, create_user_thread, start, block_current, wake, is_blocked_on, kill, tick, plan, read_thread, read_current, read_switches, exit_of}
 use Rattle.carv_scheduler_spec.specs.Runs.{run}
 use Rattle.carv_scheduler.specs.Answer.{nothing}
 use Rattle.carv_scheduler.specs.Area.{Answered, Opened}
 use Rattle.carv_scheduler.specs.Creating.{Created}
 
--- the words of an account
+-- the words of an account, as they are stored
 abbrev pub account_words : Account → List ℕ
-account_words a =
-    a.cpu_allowance ∷ a.memory_limit ∷ a.period_start ∷ a.cpu_left ∷ a.cpu_reserved ∷ a.memory_used ∷ a.memory_reserved ∷ []
+account_words a = figures a
 
 -- the words of a budget's totals: memory used, memory free, CPU left
 abbrev pub totals_words : Totals → List ℕ
@@ -28,11 +28,7 @@ totals_words t = t.memory_used ∷ t.memory_free ∷ t.cpu_left ∷ []
 
 -- the words of a thread record, as they are stored
 abbrev pub record_words : Thread → List ℕ
-record_words t =
-    state_word t.state ∷ kind_word t.state ∷ number_word t.state ∷ is_word t.budget ∷ id_word t.budget
-    ∷ is_word t.spaces ∷ space_word t.spaces ∷ cspace_word t.spaces ∷ root_word t.spaces
-    ∷ t.context.rip ∷ t.context.rsp ∷ t.context.rflags ∷ t.context.rdi ∷ t.context.rsi ∷ t.context.cs ∷ t.context.ss
-    ∷ t.results.first ∷ t.results.second ∷ t.results.third ∷ t.ticks ∷ []
+record_words t = thread_words t
 
 -- yes or no
 abbrev pub bit : Bool → ℕ

@@ -4,7 +4,7 @@
 
 mod words;
 
-ghost use Rattle.std.specs.Prelude.{◌≡◌, length};
+ghost use Rattle.std.specs.Prelude.{◌≡◌, true, false, eqb, length};
 ghost use Rattle.carv_objects_spec.specs.Book as objects;
 ghost use Rattle.carv_objects.specs.Answer.{number};
 ghost use Rattle.carv_scheduler_spec.specs.Book.{on_objects, create_user_thread, start, block_current, wake, is_blocked_on, kill, tick, plan, read_thread, read_current, read_switches, exit_of};
@@ -19,29 +19,32 @@ use words::{Reported, WORDS};
 // The number of an accepted call.
 const ACCEPTED: u64 = 0;
 
-// An answer's number, and its words in the answer words.
-fn report<T: Reported>(answer: Result<T, Refusal>, out: &mut [u64]) -> u64
-    requires { length out.old ≡ 20 }
-    ensures { (result ≡ number answer) × (out.new ≡ written T.words answer out.old) }
+// Beside carv_budget's, whose error is another type: a trait for both would have two impls of a line.
+fn number_of<T>(answer: &Result<T, Refusal>) -> u64
+    ensures { result ≡ number answer.now }
 {
     match answer {
-        Ok(told) => {
-            told.write(out);
-            ACCEPTED
-        }
+        Ok(_) => ACCEPTED,
         Err(refusal) => refusal.number(),
     }
 }
 
-// The number of an answer that has no words.
-fn number_of(answer: Result<(), Refusal>) -> u64
-    ensures { result ≡ number answer }
+// A call's number, and its words in the answer words. With other than 20 of them the call isn't made. The call is lent, so that the caller
+// knows that what the call borrows is then as it was.
+fn answered<T: Reported, F: FnMut() -> Result<T, Refusal>>(out: &mut [u64], call: &mut F) -> u64
+    requires { F.pre call.old }
+    ensures size { eqb (length out.old) 20 ≡ false → (result ≡ 1) × (call.new ≡ call.old) × (out.new ≡ out.old) }
+    ensures reports { eqb (length out.old) 20 ≡ true → (answer : _) × F.step call.old answer call.new × (result ≡ number answer) × (out.new ≡ written T.words answer out.old) }
 {
-    if let Err(refusal) = answer {
-        refusal.number()
-    } else {
-        ACCEPTED
+    let Some(words) = out.as_mut_array::<WORDS>() else {
+        return Refusal::Unsound.number();
+    };
+    let answer = call();
+    let number = number_of(&answer);
+    if let Ok(told) = answer {
+        told.write(words);
     }
+    number
 }
 
 pub fn carv_is_sound(area: &[u8]) -> bool
@@ -53,17 +56,13 @@ pub fn carv_is_sound(area: &[u8]) -> bool
 pub fn carv_image(image: &mut [u8]) -> u64
     ensures { Filled image.old result image.new }
 {
-    number_of(carv_scheduler::write_image(image))
+    number_of(&carv_scheduler::write_image(image))
 }
 
 pub fn carv_open(area: &mut [u8], cpu: u64, memory: u64, out: &mut [u64]) -> u64
     ensures { Opens cpu memory area.old out.old result area.new out.new }
 {
-    if out.len() != WORDS {
-        return Refusal::Unsound.number();
-    }
-    let answer = carv_scheduler::open(area, cpu, memory);
-    report(answer, out)
+    answered(out, &mut || carv_scheduler::open(area, cpu, memory))
 }
 
 pub fn carv_create_user_thread(
@@ -76,11 +75,10 @@ pub fn carv_create_user_thread(
 ) -> u64
     ensures { ExportedWithImage (create_user_thread id budget stack) area.old image.old out.old result area.new image.new out.new }
 {
-    if out.len() != WORDS {
-        return Refusal::Unsound.number();
-    }
-    let answer = carv_scheduler::create_user_thread(area, id, budget, stack, image);
-    report(answer, out)
+    answered(
+        out,
+        &mut || carv_scheduler::create_user_thread(area, id, budget, stack, image),
+    )
 }
 
 // The calls.
@@ -89,21 +87,19 @@ pub fn carv_create_user_thread(
 pub fn carv_create(area: &mut [u8], kind: u64, payer: u64, backing: bool, out: &mut [u64]) -> u64
     ensures { Exported (on_objects (objects.create kind payer backing)) area.old out.old result area.new out.new }
 {
-    if out.len() != WORDS {
-        return Refusal::Unsound.number();
-    }
-    let answer = carv_scheduler::create(area, kind, payer, backing);
-    report(answer, out)
+    answered(
+        out,
+        &mut || carv_scheduler::create(area, kind, payer, backing),
+    )
 }
 
 pub fn carv_insert(area: &mut [u8], kind: u64, payer: u64, bytes: u64, out: &mut [u64]) -> u64
     ensures { Exported (on_objects (objects.insert kind payer bytes)) area.old out.old result area.new out.new }
 {
-    if out.len() != WORDS {
-        return Refusal::Unsound.number();
-    }
-    let answer = carv_scheduler::insert(area, kind, payer, bytes);
-    report(answer, out)
+    answered(
+        out,
+        &mut || carv_scheduler::insert(area, kind, payer, bytes),
+    )
 }
 
 pub fn carv_create_budget(
@@ -116,101 +112,64 @@ pub fn carv_create_budget(
 ) -> u64
     ensures { Exported (on_objects (objects.create_budget parent cpu memory time)) area.old out.old result area.new out.new }
 {
-    if out.len() != WORDS {
-        return Refusal::Unsound.number();
-    }
-    let answer = carv_scheduler::create_budget(area, parent, cpu, memory, time);
-    report(answer, out)
+    answered(
+        out,
+        &mut || carv_scheduler::create_budget(area, parent, cpu, memory, time),
+    )
 }
 
 pub fn carv_charge_more(area: &mut [u8], id: u64, bytes: u64, out: &mut [u64]) -> u64
     ensures { Exported (on_objects (objects.charge_more id bytes)) area.old out.old result area.new out.new }
 {
-    if out.len() != WORDS {
-        return Refusal::Unsound.number();
-    }
-    let answer = carv_scheduler::charge_more(area, id, bytes);
-    report(answer, out)
+    answered(out, &mut || carv_scheduler::charge_more(area, id, bytes))
 }
 
 pub fn carv_uncharge(area: &mut [u8], id: u64, bytes: u64, out: &mut [u64]) -> u64
     ensures { Exported (on_objects (objects.uncharge id bytes)) area.old out.old result area.new out.new }
 {
-    if out.len() != WORDS {
-        return Refusal::Unsound.number();
-    }
-    let answer = carv_scheduler::uncharge(area, id, bytes);
-    report(answer, out)
+    answered(out, &mut || carv_scheduler::uncharge(area, id, bytes))
 }
 
 pub fn carv_remove(area: &mut [u8], id: u64, time: u64, out: &mut [u64]) -> u64
     ensures { Exported (on_objects (objects.remove id time)) area.old out.old result area.new out.new }
 {
-    if out.len() != WORDS {
-        return Refusal::Unsound.number();
-    }
-    let answer = carv_scheduler::remove(area, id, time);
-    report(answer, out)
+    answered(out, &mut || carv_scheduler::remove(area, id, time))
 }
 
 pub fn carv_refill(area: &mut [u8], id: u64, time: u64, out: &mut [u64]) -> u64
     ensures { Exported (on_objects (objects.refill id time)) area.old out.old result area.new out.new }
 {
-    if out.len() != WORDS {
-        return Refusal::Unsound.number();
-    }
-    let answer = carv_scheduler::refill(area, id, time);
-    report(answer, out)
+    answered(out, &mut || carv_scheduler::refill(area, id, time))
 }
 
 pub fn carv_charge_cpu(area: &mut [u8], id: u64, ns: u64, time: u64, out: &mut [u64]) -> u64
     ensures { Exported (on_objects (objects.charge_cpu id ns time)) area.old out.old result area.new out.new }
 {
-    if out.len() != WORDS {
-        return Refusal::Unsound.number();
-    }
-    let answer = carv_scheduler::charge_cpu(area, id, ns, time);
-    report(answer, out)
+    answered(out, &mut || carv_scheduler::charge_cpu(area, id, ns, time))
 }
 
 pub fn carv_pays_for_anything(area: &[u8], id: u64, out: &mut [u64]) -> u64
     ensures { Exported (on_objects (objects.pays_for_anything id)) area.now out.old result area.now out.new }
 {
-    if out.len() != WORDS {
-        return Refusal::Unsound.number();
-    }
-    let answer = carv_scheduler::pays_for_anything(area, id);
-    report(answer, out)
+    answered(out, &mut || carv_scheduler::pays_for_anything(area, id))
 }
 
 pub fn carv_account(area: &[u8], id: u64, out: &mut [u64]) -> u64
     ensures { Exported (on_objects (objects.read_account id)) area.now out.old result area.now out.new }
 {
-    if out.len() != WORDS {
-        return Refusal::Unsound.number();
-    }
-    let answer = carv_scheduler::account(area, id);
-    report(answer, out)
+    answered(out, &mut || carv_scheduler::account(area, id))
 }
 
 pub fn carv_charge_of(area: &[u8], id: u64, out: &mut [u64]) -> u64
     ensures { Exported (on_objects (objects.charge_of id)) area.now out.old result area.now out.new }
 {
-    if out.len() != WORDS {
-        return Refusal::Unsound.number();
-    }
-    let answer = carv_scheduler::charge_of(area, id);
-    report(answer, out)
+    answered(out, &mut || carv_scheduler::charge_of(area, id))
 }
 
 pub fn carv_totals(area: &[u8], id: u64, out: &mut [u64]) -> u64
     ensures { Exported (on_objects (objects.read_totals id)) area.now out.old result area.now out.new }
 {
-    if out.len() != WORDS {
-        return Refusal::Unsound.number();
-    }
-    let answer = carv_scheduler::totals(area, id);
-    report(answer, out)
+    answered(out, &mut || carv_scheduler::totals(area, id))
 }
 
 pub fn carv_start(
@@ -230,9 +189,6 @@ pub fn carv_start(
 ) -> u64
     ensures { Exported (start id space cspace root (record { rip = rip; rsp = rsp; rflags = rflags; rdi = rdi; rsi = rsi; cs = cs; ss = ss })) area.old out.old result area.new out.new }
 {
-    if out.len() != WORDS {
-        return Refusal::Unsound.number();
-    }
     let context = Context {
         rip,
         rsp,
@@ -242,18 +198,19 @@ pub fn carv_start(
         cs,
         ss,
     };
-    let answer = carv_scheduler::start(area, id, space, cspace, root, context);
-    report(answer, out)
+    answered(
+        out,
+        &mut || carv_scheduler::start(area, id, space, cspace, root, context),
+    )
 }
 
 pub fn carv_block_current(area: &mut [u8], kind: u64, number: u64, out: &mut [u64]) -> u64
     ensures { Exported (block_current kind number) area.old out.old result area.new out.new }
 {
-    if out.len() != WORDS {
-        return Refusal::Unsound.number();
-    }
-    let answer = carv_scheduler::block_current(area, kind, number);
-    report(answer, out)
+    answered(
+        out,
+        &mut || carv_scheduler::block_current(area, kind, number),
+    )
 }
 
 pub fn carv_wake(
@@ -266,94 +223,61 @@ pub fn carv_wake(
 ) -> u64
     ensures { Exported (wake id (record { first = first; second = second; third = third })) area.old out.old result area.new out.new }
 {
-    if out.len() != WORDS {
-        return Refusal::Unsound.number();
-    }
     let results = Results {
         first,
         second,
         third,
     };
-    let answer = carv_scheduler::wake(area, id, results);
-    report(answer, out)
+    answered(out, &mut || carv_scheduler::wake(area, id, results))
 }
 
 pub fn carv_is_blocked_on(area: &[u8], id: u64, kind: u64, number: u64, out: &mut [u64]) -> u64
     ensures { Exported (is_blocked_on id kind number) area.now out.old result area.now out.new }
 {
-    if out.len() != WORDS {
-        return Refusal::Unsound.number();
-    }
-    let answer = carv_scheduler::is_blocked_on(area, id, kind, number);
-    report(answer, out)
+    answered(
+        out,
+        &mut || carv_scheduler::is_blocked_on(area, id, kind, number),
+    )
 }
 
 pub fn carv_kill(area: &mut [u8], id: u64, cause: u64, out: &mut [u64]) -> u64
     ensures { Exported (kill id cause) area.old out.old result area.new out.new }
 {
-    if out.len() != WORDS {
-        return Refusal::Unsound.number();
-    }
-    let answer = carv_scheduler::kill(area, id, cause);
-    report(answer, out)
+    answered(out, &mut || carv_scheduler::kill(area, id, cause))
 }
 
 pub fn carv_tick(area: &mut [u8], n: u64, out: &mut [u64]) -> u64
     ensures { Exported (tick n) area.old out.old result area.new out.new }
 {
-    if out.len() != WORDS {
-        return Refusal::Unsound.number();
-    }
-    let answer = carv_scheduler::tick(area, n);
-    report(answer, out)
+    answered(out, &mut || carv_scheduler::tick(area, n))
 }
 
 pub fn carv_plan(area: &mut [u8], n: u64, out: &mut [u64]) -> u64
     ensures { Exported (plan n) area.old out.old result area.new out.new }
 {
-    if out.len() != WORDS {
-        return Refusal::Unsound.number();
-    }
-    let answer = carv_scheduler::plan(area, n);
-    report(answer, out)
+    answered(out, &mut || carv_scheduler::plan(area, n))
 }
 
 pub fn carv_read_thread(area: &[u8], id: u64, out: &mut [u64]) -> u64
     ensures { Exported (read_thread id) area.now out.old result area.now out.new }
 {
-    if out.len() != WORDS {
-        return Refusal::Unsound.number();
-    }
-    let answer = carv_scheduler::read_thread(area, id);
-    report(answer, out)
+    answered(out, &mut || carv_scheduler::read_thread(area, id))
 }
 
 pub fn carv_current(area: &[u8], out: &mut [u64]) -> u64
     ensures { Exported read_current area.now out.old result area.now out.new }
 {
-    if out.len() != WORDS {
-        return Refusal::Unsound.number();
-    }
-    let answer = carv_scheduler::current(area);
-    report(answer, out)
+    answered(out, &mut || carv_scheduler::current(area))
 }
 
 pub fn carv_switches(area: &[u8], out: &mut [u64]) -> u64
     ensures { Exported read_switches area.now out.old result area.now out.new }
 {
-    if out.len() != WORDS {
-        return Refusal::Unsound.number();
-    }
-    let answer = carv_scheduler::switches(area);
-    report(answer, out)
+    answered(out, &mut || carv_scheduler::switches(area))
 }
 
 pub fn carv_exit_of(area: &[u8], id: u64, out: &mut [u64]) -> u64
     ensures { Exported (exit_of id) area.now out.old result area.now out.new }
 {
-    if out.len() != WORDS {
-        return Refusal::Unsound.number();
-    }
-    let answer = carv_scheduler::exit_of(area, id);
-    report(answer, out)
+    answered(out, &mut || carv_scheduler::exit_of(area, id))
 }

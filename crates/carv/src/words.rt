@@ -8,15 +8,14 @@ use carv_budget::Account;
 use carv_objects::Charge;
 use carv_objects_spec::Totals;
 use carv_scheduler::Switch;
-use carv_scheduler_spec::{Cause, Spaces, Thread, Wait, is_word};
+use carv_scheduler_spec::{Cause, Thread, Wait};
 
 // How many answer words there are.
 pub const WORDS: usize = 20;
 
 // These words in the first of the answer words.
-fn write_words(out: &mut [u64], words: &[u64])
-    requires out_len { length out.old ≡ 20 }
-    requires words_bound { length words.now ≤ 20 }
+fn write_words(out: &mut [u64; WORDS], words: &[u64])
+    requires { length words.now ≤ 20 }
     ensures { out.new ≡ sets out.old 0 words.now }
 {
     out[..words.len()].copy_from_slice(words)
@@ -26,22 +25,21 @@ fn write_words(out: &mut [u64], words: &[u64])
 pub trait Reported {
     ghost words: { Self → List ℕ };
 
-    fn write(self, out: &mut [u64])
-        requires { length out.old ≡ 20 }
+    fn write(self, out: &mut [u64; WORDS])
         ensures { out.new ≡ sets out.old 0 (words self) };
 }
 
 impl Reported for () {
     ghost words = { λ _. [] };
 
-    fn write(self, _out: &mut [u64]) {}
+    fn write(self, _out: &mut [u64; WORDS]) {}
 }
 
 impl Reported for u64 {
     ghost words = { λ n. n ∷ [] };
 
-    fn write(self, out: &mut [u64]) {
-        out[0] = self
+    fn write(self, out: &mut [u64; WORDS]) {
+        out[0] = self;
     }
 }
 
@@ -49,7 +47,7 @@ impl Reported for u64 {
 impl Reported for bool {
     ghost words = { λ b. bit b ∷ [] };
 
-    fn write(self, out: &mut [u64]) {
+    fn write(self, out: &mut [u64; WORDS]) {
         out[0] = u64::from(self)
     }
 }
@@ -58,26 +56,15 @@ impl Reported for bool {
 impl Reported for Account {
     ghost words = { account_words };
 
-    fn write(self, out: &mut [u64]) {
-        write_words(
-            out,
-            &[
-                self.cpu_allowance,
-                self.memory_limit,
-                self.period_start,
-                self.cpu_left,
-                self.cpu_reserved,
-                self.memory_used,
-                self.memory_reserved,
-            ],
-        )
+    fn write(self, out: &mut [u64; WORDS]) {
+        write_words(out, &self.words())
     }
 }
 
 impl Reported for Charge {
     ghost words = { λ c. c.payer ∷ c.bytes ∷ [] };
 
-    fn write(self, out: &mut [u64]) {
+    fn write(self, out: &mut [u64; WORDS]) {
         write_words(out, &[self.payer, self.bytes])
     }
 }
@@ -85,7 +72,7 @@ impl Reported for Charge {
 impl Reported for Totals {
     ghost words = { totals_words };
 
-    fn write(self, out: &mut [u64]) {
+    fn write(self, out: &mut [u64; WORDS]) {
         write_words(out, &[self.memory_used, self.memory_free, self.cpu_left])
     }
 }
@@ -93,41 +80,8 @@ impl Reported for Totals {
 impl Reported for Thread {
     ghost words = { record_words };
 
-    fn write(self, out: &mut [u64]) {
-        let Thread {
-            state,
-            budget,
-            spaces,
-            context,
-            results,
-            ticks,
-        } = self;
-        let said = spaces.unwrap_or(Spaces::NONE);
-        write_words(
-            out,
-            &[
-                state.code(),
-                state.wait_kind(),
-                state.wait_number(),
-                is_word(budget),
-                budget.unwrap_or(0),
-                is_word(spaces),
-                said.space,
-                said.cspace,
-                said.root,
-                context.rip,
-                context.rsp,
-                context.rflags,
-                context.rdi,
-                context.rsi,
-                context.cs,
-                context.ss,
-                results.first,
-                results.second,
-                results.third,
-                ticks,
-            ],
-        )
+    fn write(self, out: &mut [u64; WORDS]) {
+        write_words(out, &self.words())
     }
 }
 
@@ -135,7 +89,7 @@ impl Reported for Thread {
 impl Reported for Option<Switch> {
     ghost words = { λ s. told_words (switch_of s) };
 
-    fn write(self, out: &mut [u64]) {
+    fn write(self, out: &mut [u64; WORDS]) {
         match self {
             None => out[0] = 0,
             Some(Switch { old, new, root }) => match root {
@@ -150,7 +104,7 @@ impl Reported for Option<Switch> {
 impl Reported for Option<Wait> {
     ghost words = { ended_words };
 
-    fn write(self, out: &mut [u64]) {
+    fn write(self, out: &mut [u64; WORDS]) {
         match self {
             None => write_words(out, &[0, 0]),
             Some(wait) => write_words(out, &[wait.kind(), wait.number()]),
@@ -162,10 +116,7 @@ impl Reported for Option<Wait> {
 impl Reported for Option<Cause> {
     ghost words = { cause_words };
 
-    fn write(self, out: &mut [u64]) {
-        out[0] = match self {
-            None => 0,
-            Some(cause) => cause.code(),
-        }
+    fn write(self, out: &mut [u64; WORDS]) {
+        out[0] = self.map_or(0, Cause::code)
     }
 }

@@ -1,6 +1,6 @@
--- Words that move down, that move up and that are cleared; a row taken out of a table, and room made for one. Assumes nothing.
-use Rattle.std.specs.Prelude.{ℕ, ◌+◌, ◌*◌, ◌-◌, List, set, drop, replicate}
-use Rattle.std.proofs.Math.Seq.{paste}
+-- Words that move down, that move up and that are cleared; a row taken out of a table, room made for one, and a row put behind the others. Assumes nothing.
+use Rattle.std.specs.Prelude.{ℕ, ◌+◌, ◌*◌, ◌-◌, List, length, get_or, set, drop, replicate}
+use Rattle.std.proofs.Math.Seq.{paste, sets}
 
 -- n zeros
 abbrev pub zeros : ℕ → List ℕ
@@ -26,3 +26,7 @@ cut_row w i n l = set (wipe ((i * w + 1) + (n - (i + 1)) * w) w (move_down (i * 
 -- The words of the new row are those that stood there
 unfoldable pub open_row : ℕ → ℕ → ℕ → List ℕ → List ℕ
 open_row w i n l = set (move_up (i * w + 1) w ((n - i) * w) l) 0 (n + 1)
+
+-- the table l, whose rows are as wide as this row, with this row behind the others: the count rises
+unfoldable pub add_row : List ℕ → List ℕ → List ℕ
+add_row row l = set (sets l (get_or l 0 0 * length row + 1) row) 0 (get_or l 0 0 + 1)

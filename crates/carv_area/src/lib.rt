@@ -3,8 +3,9 @@
 #![tactic(auto)]
 
 ghost use Rattle.std.specs.Prelude.{◌≡◌, ◌⊎◌, [], ◌∷◌, ◌++◌, ◌+◌, ◌*◌, ◌-◌, ◌≤◌, ◌<◌, length, get_or, set, drop};
+ghost use Rattle.std.proofs.lemmas.List.Edits.{sets};
 ghost use Rattle.carv_area.specs.Words.{words, rest, Writes};
-ghost use Rattle.carv_area.specs.Moves.{move_down, move_up, wipe, cut_row, open_row};
+ghost use Rattle.carv_area.specs.Moves.{move_down, move_up, wipe, cut_row, open_row, add_row};
 ghost use Rattle.carv_area.specs.Rows.{remove_at};
 ghost use Rattle.carv_area.specs.Keys.{keys};
 ghost use Rattle.carv_area.specs.Zero.{all_zero};
@@ -31,6 +32,7 @@ pub fn put(a: &mut [u8], k: usize, v: u64)
     ensures { Writes a.old a.new (set (words a.old) k v) }
 {
     // Byte by byte: `copy_from_slice` of bytes on the stack was tried, and its test for an overlap stayed in `carv_image`, 1.2 times as slow.
+    // `as_chunks_mut` says nothing of what the bytes end as; with `first_chunk_mut` the check alone didn't find the proof.
     let o = k * 8;
     let bytes = v.to_le_bytes();
     a[o] = bytes[0];
@@ -41,6 +43,16 @@ pub fn put(a: &mut [u8], k: usize, v: u64)
     a[o + 5] = bytes[5];
     a[o + 6] = bytes[6];
     a[o + 7] = bytes[7];
+}
+
+// These words from word o on.
+pub fn put_words(t: &mut [u8], o: usize, new: &[u64])
+    requires { (o + length new.now) * 8 ≤ length t.old }
+    ensures { Writes t.old t.new (sets (words t.old) o new.now) }
+{
+    for (k, word) in new.iter().enumerate() {
+        put(t, o + k, *word);
+    }
 }
 
 // ---- tables
@@ -70,7 +82,8 @@ pub fn clear(t: &mut [u8], o: usize, n: usize)
 }
 
 // Row i is taken out: the rows behind it move down, the words that come free are 0, and the count falls.
-// Not a method of `Table`: that lends its bytes to read, and its keys rise, which a row that is opened by `insert_row` breaks.
+// Not a method of `Table`: that lends its bytes to read, and its keys rise, which a row that is opened by `insert_row` breaks. The width is a
+// number, as in `cut_row` and `open_row`.
 pub fn remove_row(t: &mut [u8], w: usize, i: usize)
     requires rows_fit { (get_or (words t.old) 0 0 * w + 1) * 8 ≤ length t.old }
     requires is_row { i < get_or (words t.old) 0 0 }
@@ -96,15 +109,27 @@ pub fn insert_row(t: &mut [u8], w: usize, i: usize)
     put(t, 0, (n + 1) as u64);
 }
 
+// This row behind the others, which are as wide, and the count rises.
+pub fn append_row(t: &mut [u8], row: &[u64])
+    requires has_words { 1 ≤ length row.now }
+    requires one_more_fits { (get_or (words t.old) 0 0 * length row.now + length row.now + 1) * 8 ≤ length t.old }
+    ensures { Writes t.old t.new (add_row row.now (words t.old)) }
+{
+    let n = get(t, 0) as usize;
+    put_words(t, n * row.len() + 1, row);
+    put(t, 0, (n + 1) as u64);
+}
+
 // Are all words from word k to the end 0? They are joined, and not asked one by one (`all`), so that several are read at a time.
 pub fn zero_from(t: &[u8], k: usize) -> bool
     ensures { result ≡ all_zero (drop k (words t.now)) }
 {
-    let mut x = 0;
-    for i in k..t.len() / 8 {
-        x |= get(t, i);
-    }
-    x == 0
+    let (words, _) = t.as_chunks();
+    let behind = &words[k.min(words.len())..];
+    behind
+        .iter()
+        .fold(0, |x, word| x | u64::from_le_bytes(*word))
+        == 0
 }
 
 // ---- queues of numbers
@@ -116,9 +141,7 @@ pub fn push(t: &mut [u8], v: u64)
     ensures pushed { Queue t.new (keys 1 (words t.old) ++ (v ∷ [])) }
     ensures rest_stays { rest t.new ≡ rest t.old }
 {
-    let n = get(t, 0) as usize;
-    put(t, n + 1, v);
-    put(t, 0, (n + 1) as u64);
+    append_row(t, &[v]);
 }
 
 // The number at place i of the queue t is taken out, and those behind it move down.

@@ -8,6 +8,7 @@ ghost use Rattle.carv_area.specs.Stored.{Keyed};
 use crate::get;
 
 // A table in lent bytes: the number of rows, and the rows, each WIDTH words wide. Their first words, the keys, rise.
+// Nothing prints or compares it.
 #[derive(Clone, Copy)]
 pub struct Table<'a, const WIDTH: usize> {
     pub bytes: &'a [u8],
@@ -31,7 +32,7 @@ impl<'a, const WIDTH: usize> Table<'a, WIDTH> {
     }
 
     // How many keys are below id, by halving the count places from start on: the keys before them are below id, and those
-    // behind them above it. By hand, since the library's binary search is over slices of values, and rows in bytes are none.
+    // behind them above it. By hand, over the words where they stand: a library search over rows as chunks was not tried.
     fn halve(&self, id: u64, start: usize, count: usize) -> usize
         requires { Bracket (keys WIDTH (words self.now.bytes.now)) id start count }
         ensures { result ≡ rank_in (keys WIDTH (words self.now.bytes.now)) id }

@@ -1,5 +1,5 @@
 -- Document 01's budget account: its rules, and its calls with the questions that they ask. Assumes nothing.
-use Rattle.std.specs.Prelude.{◌≡◌, Bool, cond, ◌&&◌, ℕ, ◌+◌, ◌-◌, ◌%◌, leb, eqb, Result, Ok, Err}
+use Rattle.std.specs.Prelude.{◌≡◌, Bool, cond, ◌&&◌, ℕ, ◌+◌, ◌-◌, ◌%◌, leb, eqb, List, [], ◌∷◌, Result, Ok, Err}
 use Rattle.carv_budget.specs.declared.Account.{Account}
 use Rattle.carv_budget.specs.declared.BudgetError.{BudgetError}
 use Rattle.carv_budget.specs.declared.BudgetError.TheVariants.{Unsound, CpuBudgetExceedsPeriod, MemoryUnderflow, CpuLimitReached, MemoryLimitReached, CpuLimitExceeded, MemoryLimitExceeded, ReservationUnderflow}
@@ -39,6 +39,11 @@ fresh allowance limit start =
 -- what stands where there is no account
 abbrev pub blank : Account
 blank = fresh 0 0 0
+
+-- the words of an account
+abbrev pub figures : Account → List ℕ
+figures a =
+    a.cpu_allowance ∷ a.memory_limit ∷ a.period_start ∷ a.cpu_left ∷ a.cpu_reserved ∷ a.memory_used ∷ a.memory_reserved ∷ []
 
 -- an account with other CPU figures, its memory figures as they were
 abbrev pub with_cpu : Account → (start left reserved : ℕ) → Account

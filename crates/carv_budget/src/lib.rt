@@ -3,8 +3,9 @@
 // hands it back beside its answer; specs/Account.antt says what each leaves and answers.
 #![tactic(auto)]
 
-ghost use Rattle.std.specs.Prelude.{◌≡◌, true, ◌+◌, ◌≤◌, leb};
-ghost use Rattle.carv_budget.specs.Account.{number, number_of, outcome, sound, fresh, due, renew, free, spent, reserve, returnable, open_account, refill, charge_cpu, charge_memory, release_memory, carve_out, release_child, Lent};
+ghost use Rattle.std.specs.Prelude.{◌≡◌, true, ◌+◌, ◌≤◌, leb, false};
+ghost use Rattle.carv_budget.specs.declared.BudgetError.TheVariants.{Unsound};
+ghost use Rattle.carv_budget.specs.Account.{number, number_of, figures, outcome, refused, sound, fresh, due, renew, free, spent, reserve, returnable, open_account, refill, charge_cpu, charge_memory, release_memory, carve_out, release_child, Lent};
 
 // CPU figures are in nanoseconds, memory figures in bytes. The line is the last four.
 #[derive(Clone, Copy, Debug, PartialEq, Eq, Default)]
@@ -50,7 +51,17 @@ impl BudgetError {
     }
 }
 
-// The account as the call leaves it, beside the answer.
+// Document 01's number of an answer: 0 where the call is accepted.
+pub fn number_of<T: Copy>(answer: Result<T, BudgetError>) -> u64
+    ensures { result ≡ number_of answer }
+{
+    match answer {
+        Ok(_) => 0,
+        Err(error) => error.number(),
+    }
+}
+
+// The account as the call leaves it, beside the answer: both are told in any case, since a refusal keeps the renewal.
 #[derive(Clone, Copy, Debug, PartialEq, Eq)]
 pub struct Outcome<T> {
     pub account: Account,
@@ -80,10 +91,7 @@ impl<T: Copy> Outcome<T> {
     pub fn number(self) -> u64
         ensures { result ≡ number_of self.answer }
     {
-        match self.answer {
-            Ok(_) => 0,
-            Err(error) => error.number(),
-        }
+        number_of(self.answer)
     }
 }
 
@@ -98,7 +106,7 @@ impl Account {
     // Nanoseconds of a period.
     pub const PERIOD: u64 = 10_000_000;
 
-    // What stands where there is no account: the default, as a const.
+    // What stands where there is no account: the default, under the name that specs/Account.antt has for it, `blank`.
     pub const BLANK: Account = Account {
         cpu_allowance: 0,
         memory_limit: 0,
@@ -108,6 +116,21 @@ impl Account {
         memory_used: 0,
         memory_reserved: 0,
     };
+
+    // Its words, as they are stored and told.
+    pub fn words(self) -> [u64; 7]
+        ensures { result ≡ figures self }
+    {
+        [
+            self.cpu_allowance,
+            self.memory_limit,
+            self.period_start,
+            self.cpu_left,
+            self.cpu_reserved,
+            self.memory_used,
+            self.memory_reserved,
+        ]
+    }
 
     // Question 1, for an account alone.
     #[tactic(auto, unfolding(crate::specs::Account::sound))]
@@ -206,51 +229,55 @@ impl Account {
         Ok(Account::fresh(cpu, memory, time))
     }
 
-    // Renews the CPU time left where a period has passed, and says whether one has.
-    pub fn refill(self, time: u64) -> Outcome<bool>
-        ensures { result ≡ refill self time }
+    // Question 1 in front of a call: the step is taken of a sound account alone.
+    fn if_sound<T: Copy, F: FnOnce(Account) -> Outcome<T>>(self, step: F) -> Outcome<T>
+        requires { sound self ≡ true → F.pre step self }
+        ensures stepped { sound self ≡ true → F.post step self result }
+        ensures unsound { sound self ≡ false → result ≡ refused Unsound self }
     {
         if !self.is_sound() {
             return Outcome::refused(self, BudgetError::Unsound);
         }
-        Outcome::accepted(self.renewed(time), self.is_due(time))
+        step(self)
+    }
+
+    // Renews the CPU time left where a period has passed, and says whether one has.
+    pub fn refill(self, time: u64) -> Outcome<bool>
+        ensures { result ≡ refill self time }
+    {
+        self.if_sound(|account| Outcome::accepted(account.renewed(time), account.is_due(time)))
     }
 
     // Renews, then takes ns of the CPU time left. A refusal keeps the renewal.
     pub fn charge_cpu(self, ns: u64, time: u64) -> Outcome<()>
         ensures { result ≡ charge_cpu self ns time }
     {
-        if !self.is_sound() {
-            return Outcome::refused(self, BudgetError::Unsound);
-        }
-        self.renewed(time).spent(ns)
+        self.if_sound(|account| account.renewed(time).spent(ns))
     }
 
     #[tactic(auto, unfolding(crate::specs::Account::sound))]
-    pub fn charge_memory(mut self, bytes: u64) -> Outcome<()>
+    pub fn charge_memory(self, bytes: u64) -> Outcome<()>
         ensures { result ≡ charge_memory self bytes }
     {
-        if !self.is_sound() {
-            return Outcome::refused(self, BudgetError::Unsound);
-        }
-        if bytes > self.free() {
-            return Outcome::refused(self, BudgetError::MemoryLimitReached);
-        }
-        self.memory_used += bytes;
-        Outcome::accepted(self, ())
+        self.if_sound(|mut account| {
+            if bytes > account.free() {
+                return Outcome::refused(account, BudgetError::MemoryLimitReached);
+            }
+            account.memory_used += bytes;
+            Outcome::accepted(account, ())
+        })
     }
 
-    pub fn release_memory(mut self, bytes: u64) -> Outcome<()>
+    pub fn release_memory(self, bytes: u64) -> Outcome<()>
         ensures { result ≡ release_memory self bytes }
     {
-        if !self.is_sound() {
-            return Outcome::refused(self, BudgetError::Unsound);
-        }
-        if bytes > self.memory_used {
-            return Outcome::refused(self, BudgetError::MemoryUnderflow);
-        }
-        self.memory_used -= bytes;
-        Outcome::accepted(self, ())
+        self.if_sound(|mut account| {
+            if bytes > account.memory_used {
+                return Outcome::refused(account, BudgetError::MemoryUnderflow);
+            }
+            account.memory_used -= bytes;
+            Outcome::accepted(account, ())
+        })
     }
 
     // Renews, then reserves a child's share. The child has this account's start. A refusal keeps
@@ -259,40 +286,42 @@ impl Account {
     pub fn carve_out(self, cpu: u64, memory: u64, time: u64) -> Outcome<Account>
         ensures { result ≡ carve_out self cpu memory time }
     {
-        if !self.is_sound() {
-            return Outcome::refused(self, BudgetError::Unsound);
-        }
-        let renewed = self.renewed(time);
-        if cpu > renewed.cpu_left {
-            return Outcome::refused(renewed, BudgetError::CpuLimitExceeded);
-        }
-        if memory > renewed.free() {
-            return Outcome::refused(renewed, BudgetError::MemoryLimitExceeded);
-        }
-        Outcome::accepted(
-            renewed.reserve(cpu, memory),
-            Account::fresh(cpu, memory, renewed.period_start),
-        )
+        self.if_sound(|account| {
+            let renewed = account.renewed(time);
+            if cpu > renewed.cpu_left {
+                return Outcome::refused(renewed, BudgetError::CpuLimitExceeded);
+            }
+            if memory > renewed.free() {
+                return Outcome::refused(renewed, BudgetError::MemoryLimitExceeded);
+            }
+            Outcome::accepted(
+                renewed.reserve(cpu, memory),
+                Account::fresh(cpu, memory, renewed.period_start),
+            )
+        })
     }
 
     // Takes a child's share back. The CPU time left does not move until the next renewal.
     #[tactic(auto, unfolding(crate::specs::Account::returnable))]
-    pub fn release_child(mut self, child: Account) -> Outcome<()>
+    pub fn release_child(self, child: Account) -> Outcome<()>
         ensures { result ≡ release_child self child }
     {
-        if !self.is_sound() || !child.is_sound() {
-            return Outcome::refused(self, BudgetError::Unsound);
-        }
-        if !self.can_return(child) {
-            return Outcome::refused(self, BudgetError::ReservationUnderflow);
-        }
-        self.cpu_reserved -= child.cpu_allowance;
-        self.memory_reserved -= child.memory_limit;
-        Outcome::accepted(self, ())
+        self.if_sound(|mut account| {
+            if !child.is_sound() {
+                return Outcome::refused(account, BudgetError::Unsound);
+            }
+            if !account.can_return(child) {
+                return Outcome::refused(account, BudgetError::ReservationUnderflow);
+            }
+            account.cpu_reserved -= child.cpu_allowance;
+            account.memory_reserved -= child.memory_limit;
+            Outcome::accepted(account, ())
+        })
     }
 }
 
-// The lent forms stay beside the methods, a rule of the project.
+// Document 01 asks for these two beside the methods, as thin functions over them: "renewing and charging one account also exist on
+// an account lent for change".
 
 // Renewing an account that is lent for change.
 pub fn refill_lent(account: &mut Account, time: u64) -> Result<bool, BudgetError>

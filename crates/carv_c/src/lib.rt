@@ -1,5 +1,6 @@
-// The C functions as a static library: each is carv's function of the same name, under the same clauses. The area and 20 answer words are
-// lent, the number is returned, and the values of the answer stand in the first answer words. carv/specs/C.antt says which.
+// The C functions as the static library that C links: each is carv's function of the same name, under the same clauses. A crate is a
+// library or a static library, not both, and the demands and the programs stand on carv. The area and 20 answer words are lent, the number
+// is returned, and the values of the answer stand in the first answer words. carv/specs/C.antt says which.
 #![tactic(auto)]
 
 ghost use Rattle.std.specs.Prelude.{◌≡◌};

@@ -1,6 +1,10 @@
 // The registry's area: its parts, each lent to one function of the table. docs/LAYOUT.md has the layout.
-// That it is well formed is asked in each contract, and is no type's invariant: C lends any bytes, and a refused call leaves them as they came.
-ghost use Rattle.std.specs.Prelude.{◌≡◌, true, ◌&&◌, [], ◌∷◌, ◌++◌, ◌+◌, ◌*◌, ◌≤◌, ◌<◌, length, get_or, set};
+// That it is well formed is asked in each contract, and is no type's invariant. `Registry<'a> { bytes: &'a mut [u8], ghost formed: { WellFormed
+// bytes.now } }` with a method `set_account` was tried: each `&mut` method has a clause that `bytes` keeps its reference, one for the one that
+// the field saves, and a ghost field is a proposition, which `WellFormed`, as it is stated, is none. A reader over `&'a [u8]` was tried in
+// calls.rt: the writers would still have the clause, and would make a reader at each reading. That a place is one of the table's is a clause,
+// too: it is a number, which stays when rows move.
+ghost use Rattle.std.specs.Prelude.{◌≡◌, true, ◌&&◌, [], ◌∷◌, ◌++◌, ◌+◌, ◌*◌, ◌≤◌, ◌<◌, length, get_or};
 ghost use Rattle.carv_area.specs.Table.{Rising};
 ghost use Rattle.carv_area.specs.Rows.{remove_at};
 ghost use Rattle.carv_area.specs.Lookup.{Located, Here};
@@ -13,7 +17,7 @@ ghost use Rattle.carv_objects.specs.Laws.AreaSteps.{with_rows, BudgetAt};
 use crate::rows::{self, ROW};
 use carv_area::Table;
 use carv_budget::Account;
-use carv_objects_spec::Entry;
+use carv_objects_spec::{Entry, Kind};
 
 // Where the table starts, and the length of the area.
 pub const TABLE: usize = 8;
@@ -61,13 +65,21 @@ pub fn count(a: &[u8]) -> usize
     carv_area::get(&a[TABLE..BYTES], 0) as usize
 }
 
+// The objects as a table, whose ids rise.
+fn objects(a: &[u8]) -> Table<'_, ROW>
+    requires { WellFormed a.now }
+    ensures { result.bytes.now ≡ table a.now }
+{
+    let bytes = &a[TABLE..BYTES];
+    Table { bytes }
+}
+
 // The place of the object with this id.
 pub fn find(a: &[u8], id: u64) -> Option<usize>
     requires { WellFormed a.now }
     ensures { Located no_row (decode a.now).rows id result }
 {
-    let bytes = &a[TABLE..BYTES];
-    Table::<ROW> { bytes }.find(id)
+    objects(a).find(id)
 }
 
 // The same, where the place guess is tried first.
@@ -75,8 +87,7 @@ pub fn find_near(a: &[u8], id: u64, guess: usize) -> Option<usize>
     requires { WellFormed a.now }
     ensures { Located no_row (decode a.now).rows id result }
 {
-    let bytes = &a[TABLE..BYTES];
-    Table::<ROW> { bytes }.find_near(id, guess)
+    objects(a).find_near(id, guess)
 }
 
 // The id at place i.
@@ -106,14 +117,22 @@ pub fn entry_at(a: &[u8], i: usize) -> Entry
     rows::read_entry(&a[TABLE..BYTES], i)
 }
 
-// The object id, which stands at place i, has the entry e. An id and its place are no struct: that they belong together is a fact of the
-// lent bytes, which change, and not of the two numbers.
-pub fn set_entry(a: &mut [u8], i: usize, id: u64, e: Entry)
-    requires well_formed { WellFormed a.old }
-    requires i_in_bounds { (i < length (decode a.old).rows) × ((get_or (decode a.old).rows i no_row).id ≡ id) }
-    ensures { Leaves a.new (with_rows (set (decode a.old).rows i (row id e)) (decode a.old)) }
+// The kind of the object at place i.
+fn kind_at(a: &[u8], i: usize) -> Kind
+    requires well_formed { WellFormed a.now }
+    requires i_in_bounds { i < length (decode a.now).rows }
+    ensures { result ≡ (get_or (decode a.now).rows i no_row).it.kind }
 {
-    rows::write_entry(&mut a[TABLE..BYTES], i, id, e)
+    Kind::of_code(carv_area::get(&a[TABLE..BYTES], i * rows::ROW + rows::KIND))
+}
+
+// The account of the object at place i.
+pub fn account_at(a: &[u8], i: usize) -> Account
+    requires well_formed { WellFormed a.now }
+    requires i_in_bounds { i < length (decode a.now).rows }
+    ensures { result ≡ (get_or (decode a.now).rows i no_row).it.account }
+{
+    rows::read_account(&a[TABLE..BYTES], i)
 }
 
 // An object with the entry e behind the others.
@@ -148,17 +167,17 @@ pub fn find_budget(a: &[u8], id: u64) -> Option<usize>
     ensures { BudgetAt (decode a.now) id result }
 {
     let i = find(a, id)?;
-    entry_at(a, i).kind.is_budget().then_some(i)
+    kind_at(a, i).is_budget().then_some(i)
 }
 
-// The object id, which stands at place i, has this account.
+// The object id, which stands at place i, has this account. An id and its place are no struct: that they belong together is a fact of the
+// lent bytes, which change, and not of the two numbers.
 pub fn set_account(a: &mut [u8], i: usize, id: u64, account: Account)
     requires well_formed { WellFormed a.old }
     requires here { Here no_row (decode a.old).rows id i }
     ensures { Leaves a.new (budget id (λ _. account) (decode a.old)) }
 {
-    let e = entry_at(a, i);
-    set_entry(a, i, id, Entry { account, ..e })
+    rows::write_account(&mut a[TABLE..BYTES], i, account)
 }
 
 // The object id, which stands at place i, has this charge.
@@ -167,8 +186,7 @@ pub fn set_charge(a: &mut [u8], i: usize, id: u64, charge: u64)
     requires here { Here no_row (decode a.old).rows id i }
     ensures { Leaves a.new (object id (λ _. charge) (decode a.old)) }
 {
-    let e = entry_at(a, i);
-    set_entry(a, i, id, Entry { charge, ..e })
+    carv_area::put(&mut a[TABLE..BYTES], i * rows::ROW + rows::CHARGE, charge)
 }
 
 // A new object with the entry e, under the next id.

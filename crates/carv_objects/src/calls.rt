@@ -1,9 +1,14 @@
 // The calls on a sound area: document 01's questions in their order, then the step. lib.rt asks question 1 in front of each.
+// That the area is sound is a clause of each, and no type's invariant. A reader `Sound<'a>` over `&'a [u8]` was tried for `account` and
+// `charge_of`: it proves, but the writers would still have the clause. A writer `SoundMut<'a>` over `&'a mut [u8]` was tried for `charge_more`:
+// by value the borrow checker doesn't cover it; by `&mut self` it has a clause that `bytes` keeps its reference for the one saved, and its
+// caller in carv_scheduler, which lends a part of an area, isn't told what the part becomes.
+// Kinds come as codes, listed or not: question 4 stands behind question 1, so that the code is asked here.
 ghost use Rattle.std.specs.Prelude.{◌≡◌, true, not, ◌&&◌, ◌||◌, ◌<◌, eqb, length, get_or};
 ghost use Rattle.carv_area.specs.Rows.{remove_at};
 ghost use Rattle.carv_area.specs.Lookup.{Here};
 ghost use Rattle.carv_budget.specs.Account.{sound, renew};
-ghost use Rattle.carv_objects_spec.specs.Registry.{has, object, pays_for, has_place, has_next, budget, add, create, insert, create_budget, charge_more, uncharge, remove, refill, charge_cpu, pays_for_anything, read_account, charge_of};
+ghost use Rattle.carv_objects_spec.specs.Registry.{has, object, pays_for, has_place, has_next, budget, add, plain, create, insert, create_budget, charge_more, uncharge, remove, refill, charge_cpu, pays_for_anything, read_account, charge_of};
 ghost use Rattle.carv_objects_spec.specs.Totals.{read_totals};
 ghost use Rattle.carv_objects_spec.specs.Kinds.{needs_backing};
 ghost use Rattle.carv_objects.specs.Answer as answer;
@@ -12,24 +17,28 @@ ghost use Rattle.carv_objects.specs.Laws.Rows.{no_row};
 ghost use Rattle.carv_objects.specs.Laws.Formed.{WellFormed, Leaves};
 ghost use Rattle.carv_objects.specs.Laws.AreaSteps.{with_rows};
 
+pub use crate::area::account_at;
 use crate::{Charge, Kind, Refusal, accounts, area, subtree};
 use carv_budget::Account;
 use carv_objects_spec::{Entry, Totals};
+
+// An object that is no budget.
+fn plain(kind: Kind, payer: u64, charge: u64) -> Entry
+    ensures { result ≡ plain kind payer charge }
+{
+    Entry {
+        kind,
+        payer,
+        charge,
+        account: Account::BLANK,
+    }
+}
 
 // Is the backing there, or none needed?
 fn has_backing(kind: Kind, backing: bool) -> bool
     ensures { result ≡ (not (needs_backing kind) || backing) }
 {
     !kind.needs_backing() || backing
-}
-
-// The account of the object at place i.
-pub fn account_at(a: &[u8], i: usize) -> Account
-    requires well_formed { WellFormed a.now }
-    requires i_in_bounds { i < length (decode a.now).rows }
-    ensures { result ≡ (get_or (decode a.now).rows i no_row).it.account }
-{
-    area::entry_at(a, i).account
 }
 
 // The budget payer, which stands at place i, gets this account, and a new object stands under the next id.
@@ -55,17 +64,13 @@ pub fn insert(a: &mut [u8], code: u64, payer: u64, bytes: u64) -> Result<u64, Re
         return Err(Refusal::Full);
     }
     let i = area::find_budget(a, payer).ok_or(Refusal::Missing)?;
-    let account = account_at(a, i);
+    let account = area::account_at(a, i);
     let paid = accounts::charge(account, bytes).ok_or(Refusal::Limit)?;
-    let e = Entry {
-        kind,
-        payer,
-        charge: bytes,
-        account: Account::BLANK,
-    };
-    Ok(store(a, i, payer, paid, e))
+    Ok(store(a, i, payer, paid, plain(kind, payer, bytes)))
 }
 
+// As `insert`, but that the kind and its backing are asked last. Questions 6, 7 and 12 are no function of both: it would answer which of the
+// three fails, and its contract would say them in their order once more.
 pub fn create(a: &mut [u8], code: u64, payer: u64, backing: bool) -> Result<u64, Refusal>
     requires { sound_area a.old ≡ true }
     ensures { Serves (create code payer backing) answer.id_of a.old result a.new }
@@ -75,7 +80,7 @@ pub fn create(a: &mut [u8], code: u64, payer: u64, backing: bool) -> Result<u64,
         return Err(Refusal::Full);
     }
     let i = area::find_budget(a, payer).ok_or(Refusal::Missing)?;
-    let account = account_at(a, i);
+    let account = area::account_at(a, i);
     let bytes = kind.bytes();
     let paid = accounts::charge(account, bytes).ok_or(Refusal::Limit)?;
     if !kind.is_creatable() {
@@ -84,13 +89,7 @@ pub fn create(a: &mut [u8], code: u64, payer: u64, backing: bool) -> Result<u64,
     if !has_backing(kind, backing) {
         return Err(Refusal::Backing);
     }
-    let e = Entry {
-        kind,
-        payer,
-        charge: bytes,
-        account: Account::BLANK,
-    };
-    Ok(store(a, i, payer, paid, e))
+    Ok(store(a, i, payer, paid, plain(kind, payer, bytes)))
 }
 
 // The budget id, which stands at place i and has this account, is renewed.
@@ -118,7 +117,7 @@ pub fn create_budget(
         return Err(Refusal::Full);
     }
     let i = area::find_budget(a, parent).ok_or(Refusal::Missing)?;
-    let account = account_at(a, i);
+    let account = area::account_at(a, i);
     let paid = accounts::charge(account, Kind::BUDGET_BYTES).ok_or(Refusal::Limit)?;
     let Some((rest, child)) = accounts::carve(paid, cpu, memory, time) else {
         renew(a, i, parent, account, time);
@@ -138,7 +137,7 @@ pub fn refill(a: &mut [u8], id: u64, time: u64) -> Result<bool, Refusal>
     ensures { Serves (refill id time) answer.renewed_of a.old result a.new }
 {
     let i = area::find_budget(a, id).ok_or(Refusal::Missing)?;
-    let account = account_at(a, i);
+    let account = area::account_at(a, i);
     let done = account.refill(time);
     area::set_account(a, i, id, done.account);
     // The account is sound, so the renewal isn't refused.
@@ -150,7 +149,7 @@ pub fn charge_cpu(a: &mut [u8], id: u64, ns: u64, time: u64) -> Result<(), Refus
     ensures { Serves (charge_cpu id ns time) answer.nothing a.old result a.new }
 {
     let i = area::find_budget(a, id).ok_or(Refusal::Missing)?;
-    let account = account_at(a, i);
+    let account = area::account_at(a, i);
     let Some(rest) = accounts::spend(account, ns, time) else {
         renew(a, i, id, account, time);
         return Err(Refusal::Limit);
@@ -165,7 +164,7 @@ pub fn account(a: &[u8], id: u64) -> Result<Account, Refusal>
     ensures { Serves (read_account id) answer.account_of a.now result a.now }
 {
     let i = area::find_budget(a, id).ok_or(Refusal::Missing)?;
-    Ok(account_at(a, i))
+    Ok(area::account_at(a, i))
 }
 
 // The payer and the charge of an object.
@@ -174,11 +173,12 @@ pub fn charge_of(a: &[u8], id: u64) -> Result<Charge, Refusal>
     ensures { Serves (charge_of id) answer.charge_of a.now result a.now }
 {
     let i = area::find(a, id).ok_or(Refusal::Missing)?;
-    let e = area::entry_at(a, i);
-    Ok(Charge {
-        payer: e.payer,
-        bytes: e.charge,
-    })
+    let Entry {
+        payer,
+        charge: bytes,
+        ..
+    } = area::entry_at(a, i);
+    Ok(Charge { payer, bytes })
 }
 
 // A budget with all below it, summed.
@@ -190,7 +190,7 @@ pub fn totals(a: &[u8], id: u64) -> Result<Totals, Refusal>
     Ok(subtree::sums(a, id, i))
 }
 
-// The place of an object that is there.
+// The place of an object that is there. Here is no guess, as `subtree::place` has one.
 fn payer_place(a: &[u8], payer: u64) -> usize
     requires well_formed { WellFormed a.now }
     requires payer_value { has (decode a.now) payer ≡ true }
@@ -217,7 +217,7 @@ pub fn charge_more(a: &mut [u8], id: u64, bytes: u64) -> Result<(), Refusal>
     let i = area::find(a, id).ok_or(Refusal::Missing)?;
     let e = area::entry_at(a, i);
     let j = payer_place(a, e.payer);
-    let account = account_at(a, j);
+    let account = area::account_at(a, j);
     let paid = accounts::charge(account, bytes).ok_or(Refusal::Limit)?;
     book(a, j, e.payer, paid, i, id, e.charge + bytes);
     Ok(())
@@ -233,7 +233,7 @@ pub fn uncharge(a: &mut [u8], id: u64, bytes: u64) -> Result<(), Refusal>
         return Err(Refusal::Charge);
     }
     let j = payer_place(a, e.payer);
-    let account = account_at(a, j);
+    let account = area::account_at(a, j);
     let paid = accounts::credit(account, bytes);
     book(a, j, e.payer, paid, i, id, e.charge - bytes);
     Ok(())
@@ -253,12 +253,7 @@ fn pays(a: &[u8], id: u64) -> bool
     requires { WellFormed a.now }
     ensures { result ≡ pays_for (decode a.now) id }
 {
-    for i in 0..area::count(a) {
-        if pays_at(a, i, id) {
-            return true;
-        }
-    }
-    false
+    (0..area::count(a)).any(|i| pays_at(a, i, id))
 }
 
 // The budget payer, which stands at place j, gets this account, and the object at place i is taken out.
@@ -283,7 +278,7 @@ pub fn remove(a: &mut [u8], id: u64, time: u64) -> Result<(), Refusal>
     }
     let e = area::entry_at(a, i);
     let j = payer_place(a, e.payer);
-    let account = account_at(a, j);
+    let account = area::account_at(a, j);
     if !e.kind.is_budget() {
         let paid = accounts::credit(account, e.charge);
         release(a, j, e.payer, paid, i);
@@ -292,8 +287,7 @@ pub fn remove(a: &mut [u8], id: u64, time: u64) -> Result<(), Refusal>
     if pays(a, id) {
         return Err(Refusal::Pays);
     }
-    let child = e.account;
-    let returned = accounts::give_back(account, child, time);
+    let returned = accounts::give_back(account, e.account, time);
     let paid = accounts::credit(returned, e.charge);
     release(a, j, e.payer, paid, i);
     Ok(())

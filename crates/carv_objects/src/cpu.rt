@@ -3,7 +3,7 @@ ghost use Rattle.std.specs.Prelude.{◌≡◌, true};
 ghost use Rattle.carv_objects_spec.specs.Registry.{charge_most};
 ghost use Rattle.carv_objects.specs.Area.{decode, sound_area, Is, Renews};
 
-use crate::{accounts, area, calls};
+use crate::{accounts, area};
 
 // Renews the budget id, if it is live. Has it CPU left then?
 pub fn renew_and_test(a: &mut [u8], id: u64, time: u64) -> bool
@@ -13,7 +13,7 @@ pub fn renew_and_test(a: &mut [u8], id: u64, time: u64) -> bool
     let Some(i) = area::find_budget(a, id) else {
         return false;
     };
-    let account = calls::account_at(a, i);
+    let account = area::account_at(a, i);
     let renewed = accounts::renew(account, time);
     area::set_account(a, i, id, renewed);
     renewed.cpu_left > 0
@@ -25,7 +25,7 @@ pub fn charge_most(a: &mut [u8], id: u64, ns: u64, time: u64)
     ensures { Is a.new (charge_most id ns time (decode a.old)) }
 {
     if let Some(i) = area::find_budget(a, id) {
-        let account = calls::account_at(a, i);
+        let account = area::account_at(a, i);
         let rest = accounts::spend_most(account, ns, time);
         area::set_account(a, i, id, rest);
     }

@@ -28,7 +28,8 @@ fn write_table(a: &mut [u8], id: u64, e: Entry)
     write_only(&mut a[area::TABLE..area::BYTES], id, e)
 }
 
-// The registry with the root budget, which has this account.
+// The registry with the root budget, which has this account. The area's length is a clause, here and above: with `&mut [u8; BYTES]` both
+// were tried and prove, but `open` then lends its slice as an array, and owes at each return that the slice ends as those bytes.
 fn start(a: &mut [u8], account: Account)
     requires { length a.old ≡ 45_072 }
     ensures { Formed a.new (rooted account) }

@@ -1,9 +1,9 @@
-// The registry's table: one object in each row of 11 words.
+// The registry's table: one object in each row of 11 words. That a row lies within is a clause: a place is a number, and the table a lent slice.
 ghost use Rattle.std.specs.Prelude.{◌≡◌, [], ◌∷◌, ◌++◌, ◌+◌, ◌*◌, ◌≤◌, ◌<◌, length, get_or};
 ghost use Rattle.carv_area.specs.Words.{words};
 ghost use Rattle.carv_area.specs.Stored.{Stored};
 ghost use Rattle.carv_objects.specs.Area.{fields, row_at, rows_in};
-ghost use Rattle.carv_objects.specs.Laws.Rows.{row, set_account, set_row};
+ghost use Rattle.carv_objects.specs.Laws.Rows.{row, set_account};
 
 use carv_budget::Account;
 use carv_objects_spec::{Entry, Kind};
@@ -17,7 +17,7 @@ pub const KIND: usize = 2;
 
 pub const PAYER: usize = 3;
 
-const CHARGE: usize = 4;
+pub const CHARGE: usize = 4;
 
 const CPU_ALLOWANCE: usize = 5;
 
@@ -33,6 +33,23 @@ const MEMORY_USED: usize = 10;
 
 const MEMORY_RESERVED: usize = 11;
 
+// The account of the entry at place i of the table t.
+pub fn read_account(t: &[u8], i: usize) -> Account
+    requires { (i * 11 + 11) * 8 + 8 ≤ length t.now }
+    ensures { result ≡ (row_at (words t.now) i).it.account }
+{
+    let o = i * ROW;
+    Account {
+        cpu_allowance: carv_area::get(t, o + CPU_ALLOWANCE),
+        memory_limit: carv_area::get(t, o + MEMORY_LIMIT),
+        period_start: carv_area::get(t, o + PERIOD_START),
+        cpu_left: carv_area::get(t, o + CPU_LEFT),
+        cpu_reserved: carv_area::get(t, o + CPU_RESERVED),
+        memory_used: carv_area::get(t, o + MEMORY_USED),
+        memory_reserved: carv_area::get(t, o + MEMORY_RESERVED),
+    }
+}
+
 // The entry at place i of the table t.
 pub fn read_entry(t: &[u8], i: usize) -> Entry
     requires { (i * 11 + 11) * 8 + 8 ≤ length t.now }
@@ -43,44 +60,16 @@ pub fn read_entry(t: &[u8], i: usize) -> Entry
         kind: Kind::of_code(carv_area::get(t, o + KIND)),
         payer: carv_area::get(t, o + PAYER),
         charge: carv_area::get(t, o + CHARGE),
-        account: Account {
-            cpu_allowance: carv_area::get(t, o + CPU_ALLOWANCE),
-            memory_limit: carv_area::get(t, o + MEMORY_LIMIT),
-            period_start: carv_area::get(t, o + PERIOD_START),
-            cpu_left: carv_area::get(t, o + CPU_LEFT),
-            cpu_reserved: carv_area::get(t, o + CPU_RESERVED),
-            memory_used: carv_area::get(t, o + MEMORY_USED),
-            memory_reserved: carv_area::get(t, o + MEMORY_RESERVED),
-        },
+        account: read_account(t, i),
     }
 }
 
 // The account of the entry at place i of the table t.
-fn write_account(t: &mut [u8], i: usize, a: Account)
+pub fn write_account(t: &mut [u8], i: usize, a: Account)
     requires { (i * 11 + 11) * 8 + 8 ≤ length t.old }
     ensures { words t.new ≡ set_account (words t.old) i a }
 {
-    let o = i * ROW;
-    carv_area::put(t, o + CPU_ALLOWANCE, a.cpu_allowance);
-    carv_area::put(t, o + MEMORY_LIMIT, a.memory_limit);
-    carv_area::put(t, o + PERIOD_START, a.period_start);
-    carv_area::put(t, o + CPU_LEFT, a.cpu_left);
-    carv_area::put(t, o + CPU_RESERVED, a.cpu_reserved);
-    carv_area::put(t, o + MEMORY_USED, a.memory_used);
-    carv_area::put(t, o + MEMORY_RESERVED, a.memory_reserved);
-}
-
-// The entry e under the id at place i of the table t.
-pub fn write_entry(t: &mut [u8], i: usize, id: u64, e: Entry)
-    requires { (i * 11 + 11) * 8 + 8 ≤ length t.old }
-    ensures { words t.new ≡ set_row (words t.old) i (row id e) }
-{
-    let o = i * ROW;
-    carv_area::put(t, o + ID, id);
-    carv_area::put(t, o + KIND, e.kind.code());
-    carv_area::put(t, o + PAYER, e.payer);
-    carv_area::put(t, o + CHARGE, e.charge);
-    write_account(t, i, e.account);
+    carv_area::put_words(t, i * ROW + CPU_ALLOWANCE, &a.words())
 }
 
 // The entry e under the id behind the others of the table t, which has room.
@@ -89,7 +78,29 @@ pub fn append_entry(t: &mut [u8], id: u64, e: Entry)
     requires t_in_bounds { (length (rows_in (words t.old)) * 11 + 11) * 8 + 8 ≤ length t.old }
     ensures { Stored fields 11 t.new (rows_in (words t.old) ++ (row id e ∷ [])) }
 {
-    let n = carv_area::get(t, 0) as usize;
-    write_entry(t, n, id, e);
-    carv_area::put(t, 0, (n + 1) as u64);
+    let [
+        cpu_allowance,
+        memory_limit,
+        period_start,
+        cpu_left,
+        cpu_reserved,
+        memory_used,
+        memory_reserved,
+    ] = e.account.words();
+    carv_area::append_row(
+        t,
+        &[
+            id,
+            e.kind.code(),
+            e.payer,
+            e.charge,
+            cpu_allowance,
+            memory_limit,
+            period_start,
+            cpu_left,
+            cpu_reserved,
+            memory_used,
+            memory_reserved,
+        ],
+    )
 }

@@ -12,8 +12,11 @@ ghost use Rattle.carv_objects.specs.Laws.SoundWalk.{Tells, Plain, Rise, Place, O
 use crate::{Refusal, area, rows};
 use carv_objects_spec::{Entry, Kind};
 
-// What is left of the figures of a row's account that are sums.
-#[derive(Clone, Copy)]
+// The bytes of the table.
+const TABLE_BYTES: usize = area::BYTES - area::TABLE;
+
+// What is left of the figures of a row's account that are sums. Nothing prints or compares it.
+#[derive(Clone, Copy, Default)]
 struct Figures {
     used: u64,
     memory: u64,
@@ -21,12 +24,6 @@ struct Figures {
 }
 
 impl Figures {
-    const NONE: Figures = Figures {
-        used: 0,
-        memory: 0,
-        cpu: 0,
-    };
-
     // What is left where these are taken off, if they can be.
     fn checked_sub(self, taken: Figures) -> Option<Figures>
         ensures { Lessened self taken result }
@@ -39,7 +36,7 @@ impl Figures {
     }
 }
 
-// Is an entry in order by itself, whose kind is stored as this code?
+// Is an entry in order by itself, whose kind is stored as this code? A sound account with the three figures at 0 has the other four at 0.
 fn is_plain(code: u64, e: Entry) -> bool
     ensures { Tells result (Plain code e) }
 {
@@ -51,7 +48,7 @@ fn is_plain(code: u64, e: Entry) -> bool
 }
 
 // The place below i whose id is p. guess is tried first.
-// By hand: the ids stand in lent bytes, and carv_area::find asks that all rows' ids rise, where only the first i are known to.
+// By hand: the ids stand in lent bytes, and carv_area::Table::find asks that all rows' ids rise, where only the first i are known to.
 fn place(t: &[u8], i: usize, p: u64, guess: usize) -> Option<usize>
     requires i_in_bounds { i * 88 + 8 ≤ length t.now }
     requires rise { Rise (words t.now) i }
@@ -149,9 +146,9 @@ fn are_spent(figures: &[Figures]) -> bool
     })
 }
 
-// Are the n rows in order, and each budget's figures the sums? The place of a payer is guessed from its id.
-fn whole(t: &[u8], n: usize, next: u64) -> bool
-    requires t_len { length t.now ≡ 45_064 }
+// Are the n rows in order, and each budget's figures the sums? The place of a payer is guessed from its id: `places` goes by what is left
+// of an id, and `figures` by row, so that they are no two columns of one array.
+fn whole(t: &[u8; TABLE_BYTES], n: usize, next: u64) -> bool
     requires n_value { n ≡ get_or (words t.now) 0 0 }
     requires n_bound { n ≤ 512 }
     ensures { Tells result (Whole (words t.now) next) }
@@ -159,8 +156,9 @@ fn whole(t: &[u8], n: usize, next: u64) -> bool
     if n == 0 {
         return false;
     }
-    let mut figures = [Figures::NONE; area::PLACES];
+    let mut figures = [Figures::default(); area::PLACES];
     let mut places = [0usize; area::PLACES];
+    // A `for` that returns early: the closure of `all` would change both arrays, and its clause would say the loop's invariant again.
     for i in 0..n {
         let from = area::note(carv_area::get(t, i * rows::ROW + rows::PAYER));
         if !turn(t, i, next, &mut figures, places[from]) {
@@ -173,8 +171,7 @@ fn whole(t: &[u8], n: usize, next: u64) -> bool
 }
 
 // Question 1 of the table t.
-fn table_is_sound(t: &[u8], next: u64) -> bool
-    requires { length t.now ≡ 45_064 }
+fn table_is_sound(t: &[u8; TABLE_BYTES], next: u64) -> bool
     ensures { Tells result (SoundTable (words t.now) next) }
 {
     let n = carv_area::get(t, 0) as usize;
@@ -186,16 +183,15 @@ pub fn is_sound(area: &[u8]) -> bool
     ensures { result ≡ sound_area area.now }
 {
     area.len() == area::BYTES
-        && table_is_sound(&area[area::TABLE..area::BYTES], area::next_id(area))
+        && table_is_sound(
+            area[area::TABLE..area::BYTES].as_array().unwrap(),
+            area::next_id(area),
+        )
 }
 
 // The same in front of a call: no is a refusal.
 pub fn ask_sound(area: &[u8]) -> Result<(), Refusal>
     ensures { result ≡ asked_sound (sound_area area.now) }
 {
-    if is_sound(area) {
-        Ok(())
-    } else {
-        Err(Refusal::Unsound)
-    }
+    is_sound(area).then_some(()).ok_or(Refusal::Unsound)
 }

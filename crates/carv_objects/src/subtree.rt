@@ -10,14 +10,8 @@ ghost use Rattle.carv_objects.specs.Laws.Rows.{no_row};
 ghost use Rattle.carv_objects.specs.Laws.Formed.{WellFormed};
 ghost use Rattle.carv_objects.specs.Laws.TotalSteps.{Marked, Part};
 
-use crate::{area, calls};
+use crate::area;
 use carv_objects_spec::Totals;
-
-const NOTHING: Totals = Totals {
-    memory_used: 0,
-    memory_free: 0,
-    cpu_left: 0,
-};
 
 // The place of an object that is there. guess is tried first.
 fn place(a: &[u8], id: u64, guess: usize) -> usize
@@ -28,46 +22,48 @@ fn place(a: &[u8], id: u64, guess: usize) -> usize
     area::find_near(a, id, guess).unwrap()
 }
 
-// Is the object id, which is there, within the budget b? From payer to payer up to the root: the id falls at each call. The first
-// `known` places are marked already, so that the way ends where it comes to one of them; with none known it ends at b or the root.
-// guess is tried first for the place of id. The area stands behind a second reference: so the call in tail position hands on numbers
-// and addresses alone, and is compiled to a loop.
-pub fn is_within(
-    a: &&[u8],
-    b: u64,
-    id: u64,
-    guess: usize,
-    marks: &[bool; area::PLACES],
+// A budget of a sound area, and which of the first `known` objects are within it. Nothing prints or compares it.
+#[derive(Clone, Copy)]
+pub struct Marks<'a> {
+    area: &'a [u8],
+    budget: u64,
+    marks: &'a [bool; area::PLACES],
     known: usize,
-) -> bool
-    requires a_value { sound_area a.now.now ≡ true }
-    requires id_value { has (decode a.now.now) id ≡ true }
-    requires marked { Marked (decode a.now.now) b marks.now known }
-    ensures { result ≡ within (decode a.now.now) b id }
-{
-    if id == b {
-        return true;
-    }
-    if id == area::ROOT {
-        return false;
-    }
-    let bytes = *a;
-    let i = place(bytes, id, guess);
-    if i < known {
-        return marks[i];
-    }
-    let payer = area::payer_at(bytes, i);
-    is_within(a, b, payer, i - 1, marks, known)
+    ghost is_sound: { sound_area area.now ≡ true },
+    ghost marked: { Marked (decode area.now) budget marks.now known },
 }
 
-// Is the object at place i within the budget b? The places before it are marked. guess is tried first for the place of its payer.
-fn is_row_within(a: &[u8], b: u64, i: usize, guess: usize, marks: &[bool; area::PLACES]) -> bool
-    requires a_value { sound_area a.now ≡ true }
-    requires i_in_bounds { i < length (decode a.now).rows }
-    requires marked { Marked (decode a.now) b marks.now i }
-    ensures { result ≡ within (decode a.now) b (get_or (decode a.now).rows i no_row).id }
-{
-    area::id_at(a, i) == b || is_within(&a, b, area::payer_at(a, i), guess, marks, i)
+impl<'a> Marks<'a> {
+    // Is the object id, which is there, within the budget? From payer to payer up to the root: the id falls at each call. The way ends where
+    // it comes to one of the marked places; with none known it ends at the budget or the root. guess is tried first for the place of id.
+    // The call in tail position hands on numbers and an address alone, and is compiled to a loop.
+    pub fn is_within(&self, id: u64, guess: usize) -> bool
+        requires { has (decode self.now.area.now) id ≡ true }
+        ensures { result ≡ within (decode self.now.area.now) self.now.budget id }
+    {
+        if id == self.budget {
+            return true;
+        }
+        if id == area::ROOT {
+            return false;
+        }
+        let i = place(self.area, id, guess);
+        if i < self.known {
+            return self.marks[i];
+        }
+        let payer = area::payer_at(self.area, i);
+        self.is_within(payer, i - 1)
+    }
+
+    // Is the object behind the marked ones within the budget? guess is tried first for the place of its payer.
+    fn is_next_within(&self, guess: usize) -> bool
+        requires { self.now.known < length (decode self.now.area.now).rows }
+        ensures { result ≡ within (decode self.now.area.now) self.now.budget (get_or (decode self.now.area.now).rows self.now.known no_row).id }
+    {
+        let i = self.known;
+        area::id_at(self.area, i) == self.budget
+            || self.is_within(area::payer_at(self.area, i), guess)
+    }
 }
 
 // The figures of the account at place i, if they count.
@@ -77,9 +73,9 @@ fn part(a: &[u8], i: usize, counts: bool) -> Totals
     ensures { Part (decode a.now) i counts result }
 {
     if !counts {
-        return NOTHING;
+        return Totals::default();
     }
-    let c = calls::account_at(a, i);
+    let c = area::account_at(a, i);
     Totals {
         memory_used: c.memory_used,
         memory_free: c.free(),
@@ -88,7 +84,7 @@ fn part(a: &[u8], i: usize, counts: bool) -> Totals
 }
 
 // The sums over the budget b, which stands at place j, and all below it. What is no budget has an account of zeros. The place of a
-// payer is guessed from its id.
+// payer is guessed from its id: `places` goes by what is left of an id, and `marks` by row.
 pub fn sums(a: &[u8], b: u64, j: usize) -> Totals
     requires a_value { sound_area a.now ≡ true }
     requires here { Here no_row (decode a.now).rows b j }
@@ -98,10 +94,16 @@ pub fn sums(a: &[u8], b: u64, j: usize) -> Totals
     let mut marks = [false; area::PLACES];
     // u16: the stack of a C function is held to 18,432 bytes, which tools/stack asks, and usize misses it.
     let mut places = [0u16; area::PLACES];
-    let mut sums = NOTHING;
+    let mut sums = Totals::default();
     for i in 0..area::count(a) {
         let from = area::note(area::payer_at(a, i));
-        let inside = is_row_within(a, b, i, usize::from(places[from]), &marks);
+        let before = Marks {
+            area: a,
+            budget: b,
+            marks: &marks,
+            known: i,
+        };
+        let inside = before.is_next_within(usize::from(places[from]));
         marks[i] = inside;
         let to = area::note(area::id_at(a, i));
         places[to] = i as u16;

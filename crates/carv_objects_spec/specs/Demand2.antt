@@ -9,7 +9,7 @@ use Rattle.carv_objects_spec.specs.Replies.{reply_of, cpu_reply_of, reading_of, 
 use Rattle.carv_objects_spec.specs.Refused.{added, added_to_uncharge}
 use Rattle.carv_objects_spec.specs.Runs.{run}
 
--- the Rust's method, its result in the port's words
+-- the Rust's method, its result in the port's words. For a kind that isn't listed `from_raw` names none, and no method is called; question 4, an added refusal, stands in front
 abbrev pub rust_run : Call → Registry → RegistryReply
 rust_run (create n payer backing) r = of_type (rust.from_raw n) (λ ty. reply_of an_id 13 (rust.create ty payer backing r)) r
 rust_run (insert n payer bytes) r = of_type (rust.from_raw n) (λ ty. reply_of an_id 13 (rust.insert payer ty bytes r)) r

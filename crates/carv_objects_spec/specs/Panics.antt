@@ -117,7 +117,7 @@ charge_cpu id amount now self = if_some (rust.budget_mut id self) λ b. budget_p
 abbrev pub new : (ids cpu memory : ℕ) → List Check
 new ids cpu memory = budget_panics.new ids cpu rust.CPU_PERIOD_NS memory 0 ++ (expect (is_ok (budget.new cpu rust.CPU_PERIOD_NS memory 0)) ∷ [])
 
--- Calls. `ids` is `NEXT_BUDGET_ID`, the Rust's counter of budgets ever made.
+-- Calls. `ids` is `NEXT_BUDGET_ID`, the Rust's counter of budgets ever made. For a kind that isn't listed no method is called, so that none can panic.
 
 unfoldable pub checks : Call → (ids : ℕ) → Registry → List Check
 checks (book.create n payer backing) ids r = if_some (rust.from_raw n) λ ty. create ty payer backing r

@@ -2,7 +2,7 @@
 ghost use Rattle.std.specs.Prelude.{◌≡◌};
 ghost use Rattle.carv_objects_spec.specs.Kinds.{code, listed, kind_of, bytes_of, creatable, needs_backing, is_budget_kind, Named};
 
-// A kind's number is its code.
+// The discriminants are the codes.
 #[derive(Clone, Copy, Debug, PartialEq, Eq)]
 pub enum Kind {
     Thread = 1,
@@ -17,7 +17,7 @@ pub enum Kind {
 }
 
 impl Kind {
-    // The bytes that an object of each kind is charged.
+    // The bytes that an object of each kind is charged, by the names of kernel/src/objects.rs, where IRQ_BYTES serves both kinds of interrupts.
     pub const THREAD_BYTES: u64 = 33_792;
 
     pub const ADDRESS_SPACE_BYTES: u64 = 16_384;
@@ -36,14 +36,15 @@ impl Kind {
 
     pub const IRQ_CONTROL_BYTES: u64 = 64;
 
-    // Is it the code of a kind?
+    // Is it the code of a kind? By range and not by `from_code(n).is_some()`: question 1 asks it of each row, and is measured.
     pub fn is_listed(n: u64) -> bool
         ensures { result ≡ listed n }
     {
         matches!(n, 1..=9)
     }
 
-    // The kind that a code names.
+    // The kind that a code names. An `Option`, as the Rust's `from_raw`: `TryFrom`, here and for `Cause`, would need an error type and its
+    // `From` for `Refusal`, for one word at three callers.
     pub fn from_code(n: u64) -> Option<Kind>
         ensures { Named n result }
     {
@@ -68,6 +69,7 @@ impl Kind {
         Kind::from_code(n).unwrap_or(Kind::IrqControl)
     }
 
+    // The way back from `from_code`, a method as that is.
     pub fn code(self) -> u64
         ensures { result ≡ code self }
     {

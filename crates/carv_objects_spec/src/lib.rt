@@ -7,7 +7,8 @@ mod kind;
 use carv_budget::Account;
 pub use kind::Kind;
 
-// What stands under an id. An entry that is no budget has a blank account.
+// What stands under an id. An entry that is no budget has a blank account. The account stands beside the kind and not in it: codes, bytes and
+// questions 4 and 13 are asked of a kind where there is no account, and rows have one width.
 #[derive(Clone, Copy, Debug, PartialEq, Eq)]
 pub struct Entry {
     pub kind: Kind,
@@ -17,7 +18,7 @@ pub struct Entry {
 }
 
 // A budget with all below it, summed: memory used, memory free, CPU left.
-#[derive(Clone, Copy, Debug, PartialEq, Eq)]
+#[derive(Clone, Copy, Debug, Default, PartialEq, Eq)]
 pub struct Totals {
     pub memory_used: u64,
     pub memory_free: u64,

@@ -21,6 +21,7 @@ fn word_at(i: usize) -> u64
 }
 
 // Writes the eight bytes of step k of 64, from 1, as the word that they are, and no other. Compiled alone it is one 64-bit store.
+// A slice with its length, and no array as in `step`: that was tried, and that what `put` leaves in an array are bytes was not known.
 fn write_eight(image: &mut [u8], k: usize, word: u64)
     requires image_bytes { length image.old ≡ 512 }
     requires is_step { (1 ≤ k) × (k ≤ 64) }
@@ -31,8 +32,7 @@ fn write_eight(image: &mut [u8], k: usize, word: u64)
 }
 
 // Step k of 64, from 1, where the bytes before its own are final.
-fn step(image: &mut [u8], k: usize)
-    requires image_bytes { length image.old ≡ 512 }
+fn step(image: &mut [u8; BYTES], k: usize)
     requires is_step { (1 ≤ k) × (k ≤ 64) }
     requires final_before { Final (k - 1) image.old }
     ensures { image.new ≡ after_step k image.old }
@@ -41,8 +41,7 @@ fn step(image: &mut [u8], k: usize)
 }
 
 // Steps 1 to n of 64.
-fn steps(image: &mut [u8], n: usize)
-    requires image_bytes { length image.old ≡ 512 }
+fn steps(image: &mut [u8; BYTES], n: usize)
     requires at_most_all { n ≤ 64 }
     ensures { image.new ≡ after_step n image.old }
 {
@@ -56,5 +55,5 @@ pub fn fill_image(image: &mut [u8])
     requires { length image.old ≡ 512 }
     ensures { image.new ≡ register_image }
 {
-    steps(image, STEPS);
+    steps(image.as_mut_array().unwrap(), STEPS);
 }

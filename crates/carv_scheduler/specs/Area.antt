@@ -16,13 +16,14 @@ use Rattle.carv_scheduler_spec.specs.declared.Context.{Context}
 use Rattle.carv_scheduler_spec.specs.declared.Results.{Results}
 use Rattle.carv_scheduler_spec.specs.declared.Thread.{Thread}
 use Rattle.carv_scheduler_spec.specs.declared.Exit.{Exit}
+use Rattle.carv_scheduler_spec.specs.declared.Cause.{Cause}
 use Rattle.carv_objects.specs.declared.refusal.Refusal.{Refusal}
 use Rattle.carv_objects.specs.declared.refusal.Refusal.TheVariants.{Unsound, Share}
 use Rattle.carv_objects.specs.Answer.{number}
 use Rattle.carv_scheduler.specs.Answer.{value}
 use Rattle.carv_scheduler_spec.specs.Scheduler.{Board, BoardReply, Value, opening, wait, cause_of}
 use Rattle.carv_scheduler_spec.specs.Sound.{sound, each}
-use Rattle.carv_scheduler_spec.specs.Codes.{is_word, state_word, kind_word, number_word, id_word, space_word, cspace_word, root_word, cause_word, state_from, budget_from, spaces_from, state_listed, budget_listed, spaces_listed, exit_listed}
+use Rattle.carv_scheduler_spec.specs.Codes.{thread_words, cause_word, state_from, budget_from, spaces_from, state_listed, budget_listed, spaces_listed, exit_listed}
 
 -- The parts.
 
@@ -41,7 +42,7 @@ queue_part a = part 66_600 1_024 a
 unfoldable pub exits_part : List ℕ → List ℕ
 exits_part a = part 67_624 520 a
 
--- The words of a thread record: its id and 20 more. carv_scheduler_spec/specs/Codes.antt has the words of a state, a budget, a space and a cause.
+-- The words of a thread record: its id and 20 more. carv_scheduler_spec/specs/Codes.antt has these 20, and the words of a state, a budget, a space and a cause.
 
 abbrev pub wait_at : List ℕ → ℕ → Wait
 wait_at l o = wait (slice_index l o) (slice_index l (o + 1))
@@ -86,16 +87,12 @@ thread_at l i = record {
 }
 
 abbrev pub thread_fields : Row Thread → List ℕ
-thread_fields r =
-    r.id ∷ state_word r.it.state ∷ kind_word r.it.state ∷ number_word r.it.state ∷ is_word r.it.budget ∷ id_word r.it.budget
-    ∷ is_word r.it.spaces ∷ space_word r.it.spaces ∷ cspace_word r.it.spaces ∷ root_word r.it.spaces
-    ∷ r.it.context.rip ∷ r.it.context.rsp ∷ r.it.context.rflags ∷ r.it.context.rdi ∷ r.it.context.rsi ∷ r.it.context.cs ∷ r.it.context.ss
-    ∷ r.it.results.first ∷ r.it.results.second ∷ r.it.results.third ∷ r.it.ticks ∷ []
+thread_fields r = r.id ∷ thread_words r.it
 
-abbrev pub exit_at : List ℕ → ℕ → Exit
+abbrev pub exit_at : List ℕ → ℕ → Exit Cause
 exit_at l i = record { thread = slice_index l (i * 2 + 1); cause = cause_of (slice_index l (i * 2 + 2)) }
 
-abbrev pub exit_fields : Exit → List ℕ
+abbrev pub exit_fields : Exit Cause → List ℕ
 exit_fields e = e.thread ∷ cause_word e.cause ∷ []
 
 -- "Every code is a listed one": those of the thread and of the exit at place i, and of all of them.
@@ -126,7 +123,7 @@ exits_listed l = each (cause_listed_at l) (tab (slice_index l 0) (λ i. i))
 unfoldable pub threads_in : List ℕ → List (Row Thread)
 threads_in l = tab (slice_index l 0) (thread_at l)
 
-unfoldable pub exits_in : List ℕ → List Exit
+unfoldable pub exits_in : List ℕ → List (Exit Cause)
 exits_in l = tab (slice_index l 0) (exit_at l)
 
 -- the board that the bytes a say

@@ -6,6 +6,7 @@ pub mod Formed
 pub mod AreaSteps
 pub mod Room
 pub mod AreaLaws
+pub mod AreaCodes
 pub mod AreaExact
 pub mod Calls
 pub mod RowWords

@@ -1,10 +1,13 @@
 // The board's area: its parts, each lent to one function of carv_area or of the rows. docs/LAYOUT.md has the layout.
+// That it is well formed is asked in each contract, and is no type's invariant, for the reasons at the head of carv_objects' area.rt;
+// and so is that a place is one of its table's. The readers are as carv_objects', a line each over carv_area: what they say is of another
+// `decode`, which one function for both would take as a parameter.
 ghost use Rattle.std.specs.Prelude.{◌≡◌, ◌<◌, [], ◌∷◌, ◌++◌, length, get_or, slice_index, slice_index_or, slice_set};
 ghost use Rattle.carv_area.specs.Table.{put};
 ghost use Rattle.carv_area.specs.Rows.{remove_at};
 ghost use Rattle.carv_area.specs.Lookup.{Located};
 ghost use Rattle.carv_scheduler_spec.specs.Scheduler.{root_of, woken, ticked};
-ghost use Rattle.carv_scheduler.specs.Area.{decode};
+ghost use Rattle.carv_scheduler.specs.Area.{threads_part, decode};
 ghost use Rattle.carv_scheduler.specs.Laws.Rows.{row, no_row};
 ghost use Rattle.carv_scheduler.specs.Laws.Formed.{WellFormed, Leaves};
 ghost use Rattle.carv_scheduler.specs.Laws.RowWords.{with_state};
@@ -62,13 +65,21 @@ pub fn thread_count(a: &[u8]) -> usize
     carv_area::get(&a[THREADS..QUEUE], 0) as usize
 }
 
+// The threads, as a table to look in.
+fn threads(a: &[u8]) -> Table<'_, ROW>
+    requires { WellFormed a.now }
+    ensures { result.bytes.now ≡ threads_part a.now }
+{
+    let bytes = &a[THREADS..QUEUE];
+    Table { bytes }
+}
+
 // The place of the thread with this id.
 pub fn find_thread(a: &[u8], id: u64) -> Option<usize>
     requires { WellFormed a.now }
     ensures { Located no_row (decode a.now).threads id result }
 {
-    let bytes = &a[THREADS..QUEUE];
-    Table::<ROW> { bytes }.find(id)
+    threads(a).find(id)
 }
 
 // The same, where the place guess is tried first.
@@ -76,8 +87,7 @@ pub fn find_thread_near(a: &[u8], id: u64, guess: usize) -> Option<usize>
     requires { WellFormed a.now }
     ensures { Located no_row (decode a.now).threads id result }
 {
-    let bytes = &a[THREADS..QUEUE];
-    Table::<ROW> { bytes }.find_near(id, guess)
+    threads(a).find_near(id, guess)
 }
 
 // The id of the thread at place i.
@@ -167,8 +177,7 @@ fn thread_rank(a: &[u8], id: u64) -> usize
     requires { WellFormed a.now }
     ensures { Placed (decode a.now).threads id result }
 {
-    let bytes = &a[THREADS..QUEUE];
-    Table::<ROW> { bytes }.rank(id)
+    threads(a).rank(id)
 }
 
 // A new thread at place i, which is its place by its id.

@@ -1,4 +1,7 @@
 // The calls on a sound area: document 01's questions in their order, then the step. lib.rt asks question 1 in front of each.
+// That the area is sound is a clause of each, here and in the files beside, and no type's invariant, for the reasons at the head of
+// carv_objects' calls.rt.
+// Kinds, waits and causes come as codes, listed or not: question 4 stands behind question 1, so that the code is asked here and in killing.rt.
 ghost use Rattle.std.specs.Prelude.{◌≡◌, ◌<◌, true, length};
 ghost use Rattle.carv_area.specs.Table.{alter};
 ghost use Rattle.carv_area.specs.Lookup.{Here};
@@ -88,7 +91,7 @@ pub fn current_place(a: &[u8]) -> usize
     requires { sound_area a.now ≡ true }
     ensures { Here no_row (decode a.now).threads (decode a.now).current result }
 {
-    area::find_thread(a, area::current(a)).unwrap_or(0)
+    area::find_thread(a, area::current(a)).unwrap()
 }
 
 pub fn block_current(a: &mut [u8], kind: u64, number: u64) -> Result<(), Refusal>

@@ -24,7 +24,7 @@ pub const THREAD: usize = 1;
 pub const CAUSE: usize = 2;
 
 // The exit at place i of the log t.
-fn read_exit(t: &[u8], i: usize) -> Exit
+fn read_exit(t: &[u8], i: usize) -> Exit<Cause>
     requires { (i * 2 + 2) * 8 + 8 ≤ length t.now }
     ensures { result ≡ exit_at (words t.now) i }
 {
@@ -39,10 +39,7 @@ fn append_exit(t: &mut [u8], thread: u64, cause: Cause)
     requires t_in_bounds { (length (exits_in (words t.old)) * 2 + 2) * 8 + 8 ≤ length t.old }
     ensures { Stored exit_fields 2 t.new (exits_in (words t.old) ++ (exit thread cause ∷ [])) }
 {
-    let n = carv_area::get(t, 0) as usize;
-    carv_area::put(t, n * ROW + THREAD, thread);
-    carv_area::put(t, n * ROW + CAUSE, cause.code());
-    carv_area::put(t, 0, (n + 1) as u64);
+    carv_area::append_row(t, &[thread, cause.code()])
 }
 
 // How many exits are logged.
@@ -54,7 +51,7 @@ pub fn exit_count(a: &[u8]) -> usize
 }
 
 // The exit at place i.
-pub fn exit_at(a: &[u8], i: usize) -> Exit
+pub fn exit_at(a: &[u8], i: usize) -> Exit<Cause>
     requires well_formed { WellFormed a.now }
     requires i_in_bounds { i < length (decode a.now).exits }
     ensures { result ≡ slice_index_or (decode a.now).exits i no_exit }
@@ -99,22 +96,27 @@ pub fn log_exit(a: &mut [u8], thread: u64, cause: Cause)
     add_exit(a, thread, cause)
 }
 
+// The cause of the thread's oldest exit in the area.
+fn oldest(a: &[u8], id: u64) -> Option<Cause>
+    requires { WellFormed a.now }
+    ensures { result ≡ exit_in id (decode a.now).exits }
+{
+    (0..exit_count(a))
+        .map(|i| exit_at(a, i))
+        .find(|e| e.thread == id)
+        .map(|e| e.cause)
+}
+
 // The cause of the thread's oldest logged end.
 pub fn exit_of(a: &[u8], id: u64) -> Result<Option<Cause>, Refusal>
     requires { sound_area a.now ≡ true }
     ensures { Serves (exit_of id) cause_of a.now result a.now }
 {
-    for i in 0..exit_count(a) {
-        let e = exit_at(a, i);
-        if e.thread == id {
-            return Ok(Some(e.cause));
-        }
-    }
-    Ok(None)
+    Ok(oldest(a, id))
 }
 
-// The same in a lent run of exits, from the oldest.
-pub fn exit_in(exits: &[Exit], thread: u64) -> Option<Cause>
+// The same in a lent run of exits, from the oldest, whatever says their causes.
+pub fn exit_in<C: Copy>(exits: &[Exit<C>], thread: u64) -> Option<C>
     ensures { result ≡ exit_in thread exits.now }
 {
     exits.iter().find(|e| e.thread == thread).map(|e| e.cause)

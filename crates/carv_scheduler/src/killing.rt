@@ -21,12 +21,7 @@ fn queue_find(a: &[u8], id: u64) -> Option<usize>
     requires { WellFormed a.now }
     ensures { result ≡ find_in (decode a.now).queue id }
 {
-    for i in 0..area::queue_length(a) {
-        if area::queue_at(a, i) == id {
-            return Some(i);
-        }
-    }
-    None
+    (0..area::queue_length(a)).find(|&i| area::queue_at(a, i) == id)
 }
 
 // A thread leaves the ready queue, if it is there.

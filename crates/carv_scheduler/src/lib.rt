@@ -34,15 +34,12 @@ pub use opening::open;
 pub use planning::Switch;
 pub use sound::is_sound;
 
-// Question 1: is the area of its length, and the board in it sound?
+// Question 1: is the area of its length, and the board in it sound? Beside carv_objects's, which asks of the registry alone: what both share
+// is the line from yes or no to an answer, and a function for that would be as long as either.
 fn ask_sound(area: &[u8]) -> Result<(), Refusal>
     ensures { result ≡ asked_sound (sound_area area.now) }
 {
-    if is_sound(area) {
-        Ok(())
-    } else {
-        Err(Refusal::Unsound)
-    }
+    is_sound(area).then_some(()).ok_or(Refusal::Unsound)
 }
 
 // A new thread, Inactive; if it is accepted, its register image is filled.

@@ -1,4 +1,4 @@
-// The opening: a new board over whatever the bytes held.
+// The opening: a new board over whatever the bytes held. The area's length is a clause, for the reason that carv_objects' opening.rt gives.
 ghost use Rattle.std.specs.Prelude.{◌≡◌, ◌≤◌, length};
 ghost use Rattle.carv_scheduler.specs.Area.{Opened};
 ghost use Rattle.carv_scheduler.specs.Laws.Formed.{Leaves};
@@ -19,7 +19,7 @@ fn open_registry(a: &mut [u8], cpu: u64, memory: u64)
     ensures { RegistryOpened cpu memory a.old a.new }
 {
     // The length and the share are what opening asks: it is not refused.
-    let _opened = carv_objects::open(&mut a[0..area::HEAD], cpu, memory);
+    carv_objects::open(&mut a[0..area::HEAD], cpu, memory).unwrap();
 }
 
 // Every word behind the registry is 0.

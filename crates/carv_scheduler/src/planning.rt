@@ -7,9 +7,10 @@ ghost use Rattle.carv_scheduler.specs.Area.{decode, sound_area, Serves};
 ghost use Rattle.carv_scheduler.specs.Laws.Rows.{no_row};
 ghost use Rattle.carv_scheduler.specs.Laws.Formed.{WellFormed, Leaves};
 ghost use Rattle.carv_scheduler.specs.Laws.AreaSteps.{with_head};
-ghost use Rattle.carv_scheduler.specs.Laws.Planning.{Renewing, guess_behind, Tests, Tries, Walks, Chooses, Backs, Told, Runs, Leaving, Switches};
+ghost use Rattle.carv_scheduler.specs.Laws.Planning.{Renewing, Stands, guess_behind, Tests, Tries, Walks, Chooses, Backs, Told, Runs, Leaving, Switches};
 
 use crate::area;
+use crate::calls::current_place;
 use crate::numbers::{IDLE, LAST_TICK, TICK};
 use carv_objects::Refusal;
 use carv_scheduler_spec::State;
@@ -23,10 +24,50 @@ pub struct Switch {
 }
 
 // The thread to run, out of the queue: its id, and its place in the table.
-#[derive(Clone, Copy)]
+#[derive(Clone, Copy, Debug, PartialEq, Eq)]
 pub struct Chosen {
     pub id: u64,
     pub at: Option<usize>,
+}
+
+impl Chosen {
+    // The root of its page table.
+    fn root_at(self, a: &[u8]) -> Option<u64>
+        requires well_formed { WellFormed a.now }
+        requires located { Stands self a.now }
+        ensures { result ≡ root_of (thread (decode a.now).threads self.id) }
+    {
+        let i = self.at?;
+        area::root_at(a, i)
+    }
+
+    // The switch to it from old, if they are two.
+    fn switch_answer(self, a: &[u8], old: u64) -> Option<Switch>
+        requires well_formed { WellFormed a.now }
+        requires located { Stands self a.now }
+        ensures { Told old self.id (decode a.now) result }
+    {
+        if self.id == old {
+            return None;
+        }
+        let root = self.root_at(a);
+        Some(Switch {
+            old,
+            new: self.id,
+            root,
+        })
+    }
+
+    // It runs.
+    fn run(self, a: &mut [u8])
+        requires well_formed { WellFormed a.old }
+        requires located { Stands self a.old }
+        ensures { Runs self.id a.old a.new }
+    {
+        if let Some(i) = self.at {
+            area::set_state(a, i, State::Running)
+        }
+    }
 }
 
 // Renews the budget id, if it is live. Has it CPU left then?
@@ -63,7 +104,7 @@ fn try_thread(a: &mut [u8], id: u64, at: Option<usize>, time: u64) -> Option<usi
 fn guess_behind(at: Option<usize>) -> usize
     ensures { result ≡ guess_behind at }
 {
-    at.map_or(0, |i| if i < area::PLACES { i + 1 } else { 0 })
+    at.map_or(0, |i| i.wrapping_add(1))
 }
 
 // The first thread of the queue with time left, each tested after its budget is renewed: its places in the queue and in the table. With
@@ -72,6 +113,7 @@ fn walk(a: &mut [u8], time: u64) -> Option<(usize, usize)>
     requires { WellFormed a.old }
     ensures { Walks time a.old result a.new }
 {
+    // A loop, and no `find_map`: its closure would change the area, and a proof knows nothing of what such a closure left.
     let mut guess = 0;
     for k in 0..area::queue_length(a) {
         let id = area::queue_at(a, k);
@@ -108,52 +150,15 @@ fn put_back(a: &mut [u8], old: u64) -> bool
     requires value { old ≡ (decode a.old).current }
     ensures { Backs old a.old result a.new }
 {
-    let Some(i) = area::find_thread(a, old) else {
-        return false;
-    };
-    let state = area::state_at(a, i);
-    if state != State::Running {
-        return state == State::Dead;
-    }
-    if old == IDLE {
-        return false;
-    }
-    area::set_state(a, i, State::Ready);
-    area::queue_push(a, old);
-    false
-}
-
-// The page-table root of the thread id, which stands at this place.
-fn root_at(a: &[u8], id: u64, at: Option<usize>) -> Option<u64>
-    requires well_formed { WellFormed a.now }
-    requires located { Located no_row (decode a.now).threads id at }
-    ensures { result ≡ root_of (thread (decode a.now).threads id) }
-{
-    let i = at?;
-    area::root_at(a, i)
-}
-
-// The switch from old to id, which stands at this place, if they are two.
-fn switch_answer(a: &[u8], old: u64, id: u64, at: Option<usize>) -> Option<Switch>
-    requires well_formed { WellFormed a.now }
-    requires located { Located no_row (decode a.now).threads id at }
-    ensures { Told old id (decode a.now) result }
-{
-    if id == old {
-        return None;
-    }
-    let root = root_at(a, id, at);
-    Some(Switch { old, new: id, root })
-}
-
-// The thread id, which stands at this place, runs.
-fn run(a: &mut [u8], id: u64, at: Option<usize>)
-    requires well_formed { WellFormed a.old }
-    requires located { Located no_row (decode a.old).threads id at }
-    ensures { Runs id a.old a.new }
-{
-    if let Some(i) = at {
-        area::set_state(a, i, State::Running)
+    let i = current_place(a);
+    match area::state_at(a, i) {
+        State::Running if old == IDLE => false,
+        State::Running => {
+            area::set_state(a, i, State::Ready);
+            area::queue_push(a, old);
+            false
+        }
+        state => state == State::Dead,
     }
 }
 
@@ -176,7 +181,7 @@ fn set_current(a: &mut [u8], id: u64)
     ensures { Leaves a.new (with_head id (((decode a.old).switches + 1) % 2 ^ 64) (decode a.old)) }
 {
     let count = area::switches(a);
-    area::set_head(a, id, std::num::wrapping_add_u64(count, 1))
+    area::set_head(a, id, count.wrapping_add(1))
 }
 
 // The chosen thread runs, in place of old; one that is left dead goes.
@@ -184,14 +189,13 @@ fn switch_to(a: &mut [u8], old: u64, killed: bool, next: Chosen) -> Option<Switc
     requires well_formed { WellFormed a.old }
     requires value { old ≡ (decode a.old).current }
     requires killed_value { killed ≡ is dead (thread (decode a.old).threads old) }
-    requires located { Located no_row (decode a.old).threads next.id next.at }
+    requires located { Stands next a.old }
     ensures { Switches next.id a.old result a.new }
 {
-    let Chosen { id, at } = next;
-    let said = switch_answer(a, old, id, at);
-    run(a, id, at);
-    if id != old {
-        set_current(a, id);
+    let said = next.switch_answer(a, old);
+    next.run(a);
+    if next.id != old {
+        set_current(a, next.id);
         leave(a, old, killed);
     }
     said

@@ -11,8 +11,9 @@ ghost use Rattle.carv_scheduler.specs.Laws.Formed.{WellFormed, Leaves};
 ghost use Rattle.carv_scheduler.specs.Laws.Waking.{wake_place};
 ghost use Rattle.carv_scheduler.specs.Laws.Ticking.{accounted};
 
+use crate::area;
+use crate::calls::current_place;
 use crate::numbers::{LAST_TICK, TICK};
-use crate::{area, rows};
 use carv_objects::Refusal;
 use carv_scheduler_spec::{Results, State, Wait};
 
@@ -53,10 +54,7 @@ fn is_due(a: &[u8], i: usize, n: u64) -> bool
     requires i_in_bounds { i < length (decode a.now).threads }
     ensures { result ≡ is_due n (slice_index_or (decode a.now).threads i no_row).it }
 {
-    match area::state_at(a, i) {
-        State::Blocked(Wait::Sleep(at)) => at <= n,
-        _ => false,
-    }
+    matches!(area::state_at(a, i), State::Blocked(Wait::Sleep(at)) if at <= n)
 }
 
 // The thread at place i wakes, if it is a sleeper that is due at tick n.
@@ -65,11 +63,10 @@ fn wake_at(a: &mut [u8], i: usize, n: u64)
     requires i_in_bounds { i < length (decode a.old).threads }
     ensures { Is a.new (wake_place n i (decode a.old)) }
 {
-    if !is_due(a, i, n) {
-        return;
+    if is_due(a, i, n) {
+        let id = area::thread_id(a, i);
+        wake_thread(a, i, id, Results::default())
     }
-    let id = area::thread_id(a, i);
-    wake_thread(a, i, id, rows::NO_RESULTS)
 }
 
 // The sleepers that are due at tick n wake, by rising id.
@@ -87,10 +84,7 @@ fn account(a: &mut [u8], time: u64)
     requires { sound_area a.old ≡ true }
     ensures { Is a.new (accounted time (decode a.old)) }
 {
-    let id = area::current(a);
-    let Some(i) = area::find_thread(a, id) else {
-        return;
-    };
+    let i = current_place(a);
     let payer = area::budget_at(a, i);
     area::add_tick(a, i);
     if let Some(budget) = payer {

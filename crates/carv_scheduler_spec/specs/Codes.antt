@@ -1,10 +1,11 @@
 -- Document 01's codes: the words that a state with its wait, a budget, a space and a cause are stored as, what such words say, and the test that they are the words of one:
 -- "every code is a listed one". carv_scheduler/specs/Area.antt lays records out in these. Assumes nothing.
-use Rattle.std.specs.Prelude.{◌≡◌, Bool, false, cond, ◌&&◌, ℕ, eqb, leb, Option, Some, None}
+use Rattle.std.specs.Prelude.{◌≡◌, Bool, false, cond, ◌&&◌, List, [], ◌∷◌, ℕ, eqb, leb, Option, Some, None}
 use Rattle.carv_scheduler_spec.specs.declared.Wait.{Wait}
 use Rattle.carv_scheduler_spec.specs.declared.State.{State}
 use Rattle.carv_scheduler_spec.specs.declared.State.TheVariants.{Inactive, Ready, Running, Blocked, Dead}
 use Rattle.carv_scheduler_spec.specs.declared.Spaces.{Spaces}
+use Rattle.carv_scheduler_spec.specs.declared.Thread.{Thread}
 use Rattle.carv_scheduler_spec.specs.declared.Cause.{Cause}
 use Rattle.carv_scheduler_spec.specs.declared.Cause.TheVariants.{Destroyed, Faulted}
 use Rattle.carv_scheduler_spec.specs.Scheduler.{wait_listed, cause_listed, wait, kind_of, number_of, wait_in, in_spaces}
@@ -47,6 +48,14 @@ cspace_word s = or_0 (λ (x : Spaces). x.cspace) s
 
 abbrev pub root_word : Option Spaces → ℕ
 root_word s = or_0 (λ (x : Spaces). x.root) s
+
+-- the words of a thread record, behind its id
+abbrev pub thread_words : Thread → List ℕ
+thread_words t =
+    state_word t.state ∷ kind_word t.state ∷ number_word t.state ∷ is_word t.budget ∷ id_word t.budget
+    ∷ is_word t.spaces ∷ space_word t.spaces ∷ cspace_word t.spaces ∷ root_word t.spaces
+    ∷ t.context.rip ∷ t.context.rsp ∷ t.context.rflags ∷ t.context.rdi ∷ t.context.rsi ∷ t.context.cs ∷ t.context.ss
+    ∷ t.results.first ∷ t.results.second ∷ t.results.third ∷ t.ticks ∷ []
 
 -- "Causes of an end: 1 Destroyed, 2 Faulted"
 abbrev pub cause_word : Cause → ℕ

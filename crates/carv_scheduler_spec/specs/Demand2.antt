@@ -10,7 +10,8 @@ use Rattle.carv_scheduler_spec.specs.Replies.{there, creation_reply_of, said_rep
 use Rattle.carv_objects_spec.specs.Refused.{added, added_to_block}
 use Rattle.carv_scheduler_spec.specs.Runs.{run}
 
--- the Rust's method, its result in the port's words
+-- the Rust's method, its result in the port's words. A wait or cause that isn't listed is no value of the Rust's: question 4, an added refusal, stands in front, so that
+-- demand 2 says nothing of the send or Faulted that it would read as here
 abbrev pub rust_run : Call → Board → BoardReply
 rust_run (on_objects c) b = objects_reply_of (objects.rust_run c b.registry) b
 rust_run (create_user_thread i budget stack) b = creation_reply_of (rust.create_user_thread i budget stack b)

@@ -73,7 +73,8 @@ abbrev pub any_blocked : State → Bool
 any_blocked (Blocked _) = true
 any_blocked _ = false
 
--- A call of document 01 has a code for a wait's variant or an end's. A code that is not listed names none, and such a call is refused: here it reads as the last variant.
+-- A call of document 01 has a code for a wait's variant or an end's. A code that is not listed names none, and question 4 refuses such a call: here it would read as a send,
+-- which no tick wakes, or as Faulted.
 
 -- the variant `kind` with `number` in it
 abbrev pub wait : (kind number : ℕ) → Wait
@@ -81,7 +82,8 @@ wait kind number =
     cond (eqb kind 1) (waits.Send number)
     (cond (eqb kind 2) (waits.Recv number)
     (cond (eqb kind 3) (waits.Reply number)
-    (cond (eqb kind 4) (waits.Notification number) (waits.Sleep number))))
+    (cond (eqb kind 4) (waits.Notification number)
+    (cond (eqb kind 5) (waits.Sleep number) (waits.Send number)))))
 
 abbrev pub cause : ℕ → Cause
 cause code = cond (eqb code 1) Destroyed Faulted
@@ -209,9 +211,9 @@ abbrev pub is_blocked_on : ℕ → Wait → Board → Bool
 is_blocked_on id w self = is_blocked_on_found (thread id self) w
 
 -- `if self.exits.len() == EXIT_LOG { self.exits.pop_front(); } self.exits.push_back((id, why));`
-abbrev pub log : Exit → Board → Board
+abbrev pub log : Exit Cause → Board → Board
 log e self =
-    let l : List Exit = cond (eqb (length self.exits) EXIT_LOG) (drop 1 self.exits) self.exits in
+    let l : List (Exit Cause) = cond (eqb (length self.exits) EXIT_LOG) (drop 1 self.exits) self.exits in
     record { registry = self.registry; threads = self.threads; queue = self.queue; current = self.current; switches = self.switches; exits = l ++ (e ∷ []) }
 
 -- `kill`
@@ -358,12 +360,12 @@ plan now_ticks self =
     plan_next old (next_of p.place back.queue) (write_objects p.registry (write_queue (rest_of p.place back.queue) back))
 
 -- `exit_of`: `self.exits.iter().find(|(t, _)| *t == id).map(|(_, e)| *e)`
-abbrev pub find_exit : ℕ → List Exit → Option Exit
+abbrev pub find_exit : {C : Type 0} → ℕ → List (Exit C) → Option (Exit C)
 find_exit id [] = None
 find_exit id (e ∷ l) = cond (eqb e.thread id) (Some e) (find_exit id l)
 
 abbrev pub exit_of : ℕ → Board → Option Cause
-exit_of id self = option_map (λ (e : Exit). e.cause) (find_exit id self.exits)
+exit_of id self = option_map (λ (e : Exit Cause). e.cause) (find_exit id self.exits)
 
 -- `Scheduler::new`, beside `ObjectRegistry::new`
 abbrev pub new : (cpu memory : ℕ) → Board

@@ -26,7 +26,7 @@ pub record Board : Type 0 where
   pub queue : List ℕ
   pub current : ℕ
   pub switches : ℕ
-  pub exits : List Exit
+  pub exits : List (Exit Cause)
 
 -- "idle (id 2^64 − 1)"
 abbrev pub idle : ℕ
@@ -73,13 +73,14 @@ is test t = test t.state
 abbrev pub wait_listed : ℕ → Bool
 wait_listed kind = leb 1 kind && leb kind 5
 
--- the wait of a listed kind. Another would read as a sleep: question 4 stands in front
+-- the wait of a listed kind. Another would read as a send, which no tick wakes. It is never read: question 4 stands in front of a call's, and question 1 of a record's
 abbrev pub wait : (kind number : ℕ) → Wait
 wait kind number =
     cond (eqb kind 1) (waits.Send number)
     (cond (eqb kind 2) (waits.Recv number)
     (cond (eqb kind 3) (waits.Reply number)
-    (cond (eqb kind 4) (waits.Notification number) (waits.Sleep number))))
+    (cond (eqb kind 4) (waits.Notification number)
+    (cond (eqb kind 5) (waits.Sleep number) (waits.Send number)))))
 
 abbrev pub kind_of : Wait → ℕ
 kind_of (waits.Send number) = 1
@@ -198,7 +199,7 @@ without i (j ∷ q) = cond (eqb j i) (without i q) (j ∷ without i q)
 abbrev pub most_exits : ℕ
 most_exits = 32
 
-abbrev pub logged : Exit → List Exit → List Exit
+abbrev pub logged : Exit Cause → List (Exit Cause) → List (Exit Cause)
 logged e l = cond (eqb (length l) most_exits) (drop 1 l) l ++ (e ∷ [])
 
 -- Budgets of threads. "A thread whose budget id names no live budget is passed over and not charged."
@@ -380,7 +381,7 @@ abbrev pub read_switches : Board → BoardReply
 read_switches b = accept (Some (word b.switches)) b
 
 -- "`exit_of` gives the oldest match", "none" for a missing id
-abbrev pub exit_in : (i : ℕ) → List Exit → Option Cause
+abbrev pub exit_in : {C : Type 0} → (i : ℕ) → List (Exit C) → Option C
 exit_in i [] = None
 exit_in i (e ∷ l) = cond (eqb e.thread i) (Some e.cause) (exit_in i l)
 

@@ -4,7 +4,7 @@
 
 ghost use Rattle.std.specs.Prelude.{◌≡◌};
 ghost use Rattle.carv_scheduler_spec.specs.Scheduler.{wait_listed, wait, kind_of, number_of, wait_in, cause_listed, cause_of};
-ghost use Rattle.carv_scheduler_spec.specs.Codes.{is_word, state_word, kind_word, number_word, cause_word, NamedWait, NamedCause};
+ghost use Rattle.carv_scheduler_spec.specs.Codes.{is_word, state_word, kind_word, number_word, thread_words, cause_word, NamedWait, NamedCause};
 
 // What a blocked thread waits for.
 #[derive(Clone, Copy, Debug, PartialEq, Eq)]
@@ -29,7 +29,7 @@ impl Wait {
         matches!(kind, 1..=5)
     }
 
-    // The wait of the kind that a code names, with this number.
+    // The wait of the kind that a code names, with this number. No `TryFrom`: it takes two words.
     pub fn from_code(kind: u64, number: u64) -> Option<Wait>
         ensures { NamedWait kind number result }
     {
@@ -43,11 +43,11 @@ impl Wait {
         }
     }
 
-    // The same of a code that is known to be listed. Another reads as a sleep.
+    // The same of a code that is known to be listed. Another reads as a send, which no tick wakes.
     pub fn of_code(kind: u64, number: u64) -> Wait
         ensures { result ≡ wait kind number }
     {
-        Wait::from_code(kind, number).unwrap_or(Wait::Sleep(number))
+        Wait::from_code(kind, number).unwrap_or(Wait::Send(number))
     }
 
     // The code of its kind.
@@ -90,7 +90,7 @@ pub enum State {
 }
 
 impl State {
-    // The code of each state.
+    // The code of each state. Words are read and written with them, and question 1 tests words before there is a State.
     pub const INACTIVE: u64 = 1;
 
     pub const READY: u64 = 2;
@@ -101,6 +101,7 @@ impl State {
 
     pub const DEAD: u64 = 5;
 
+    // The first of the three words that a state is told by; no `From`, since it says no wait.
     pub fn code(self) -> u64
         ensures { result ≡ state_word self }
     {
@@ -123,45 +124,30 @@ impl State {
         }
     }
 
-    // The code and the number of its wait, or 0 and 0.
+    // The code of its wait's kind, and the wait's number, or 0 and 0.
     pub fn wait_kind(self) -> u64
         ensures { result ≡ kind_word self }
     {
-        match self {
-            State::Blocked(wait) => wait.kind(),
-            _ => 0,
-        }
+        self.wait().map_or(0, Wait::kind)
     }
 
     pub fn wait_number(self) -> u64
         ensures { result ≡ number_word self }
     {
-        match self {
-            State::Blocked(wait) => wait.number(),
-            _ => 0,
-        }
+        self.wait().map_or(0, Wait::number)
     }
 }
 
 // Where a started thread runs: address space, capability space and page-table root.
-#[derive(Clone, Copy, Debug, PartialEq, Eq)]
+#[derive(Clone, Copy, Debug, Default, PartialEq, Eq)]
 pub struct Spaces {
     pub space: u64,
     pub cspace: u64,
     pub root: u64,
 }
 
-impl Spaces {
-    // What is stored and told of a thread that has none.
-    pub const NONE: Spaces = Spaces {
-        space: 0,
-        cspace: 0,
-        root: 0,
-    };
-}
-
 // The seven words of UserContext.
-#[derive(Clone, Copy, Debug, PartialEq, Eq)]
+#[derive(Clone, Copy, Debug, Default, PartialEq, Eq)]
 pub struct Context {
     pub rip: u64,
     pub rsp: u64,
@@ -173,7 +159,7 @@ pub struct Context {
 }
 
 // The three result words that a blocked system call completes with.
-#[derive(Clone, Copy, Debug, PartialEq, Eq)]
+#[derive(Clone, Copy, Debug, Default, PartialEq, Eq)]
 pub struct Results {
     pub first: u64,
     pub second: u64,
@@ -191,17 +177,53 @@ pub struct Thread {
     pub ticks: u64,
 }
 
+impl Thread {
+    // Its words, as they are stored and told. What is not there is 0.
+    pub fn words(self) -> [u64; 20]
+        ensures { result ≡ thread_words self }
+    {
+        let Thread {
+            state,
+            budget,
+            spaces,
+            context,
+            results,
+            ticks,
+        } = self;
+        let said = spaces.unwrap_or_default();
+        [
+            state.code(),
+            state.wait_kind(),
+            state.wait_number(),
+            is_word(budget),
+            budget.unwrap_or(0),
+            is_word(spaces),
+            said.space,
+            said.cspace,
+            said.root,
+            context.rip,
+            context.rsp,
+            context.rflags,
+            context.rdi,
+            context.rsi,
+            context.cs,
+            context.ss,
+            results.first,
+            results.second,
+            results.third,
+            ticks,
+        ]
+    }
+}
+
 // The word that says whether it is there.
 pub fn is_word<T: Copy>(o: Option<T>) -> u64
     ensures { result ≡ is_word o }
 {
-    match o {
-        None => 0,
-        Some(_) => 1,
-    }
+    u64::from(o.is_some())
 }
 
-// Why a thread ended. The numbers are document 01's.
+// Why a thread ended. The codes are document 01's.
 #[derive(Clone, Copy, Debug, PartialEq, Eq)]
 pub enum Cause {
     Destroyed = 1,
@@ -209,14 +231,14 @@ pub enum Cause {
 }
 
 impl Cause {
-    // Is it the code of a cause?
+    // Is it the code of a cause? By range, as `Kind::is_listed`.
     pub fn is_listed(n: u64) -> bool
         ensures { result ≡ cause_listed n }
     {
         matches!(n, 1..=2)
     }
 
-    // The cause that a code names.
+    // The cause that a code names, in the form of `Kind::from_code`.
     pub fn from_code(n: u64) -> Option<Cause>
         ensures { NamedCause n result }
     {
@@ -234,6 +256,7 @@ impl Cause {
         Cause::from_code(n).unwrap_or(Cause::Faulted)
     }
 
+    // The way back from `from_code`, a method as that is.
     pub fn code(self) -> u64
         ensures { result ≡ cause_word self }
     {
@@ -241,9 +264,9 @@ impl Cause {
     }
 }
 
-// A thread's end.
+// A thread's end. The board's log holds those whose cause is a `Cause`; a lent run may say it as a code, or otherwise.
 #[derive(Clone, Copy, Debug, PartialEq, Eq)]
-pub struct Exit {
+pub struct Exit<C> {
     pub thread: u64,
-    pub cause: Cause,
+    pub cause: C,
 }

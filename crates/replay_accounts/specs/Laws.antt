@@ -2,8 +2,7 @@
 use Rattle.std.specs.Prelude.{Bool, true, false, List, ◌≡◌, refl, ℕ, ◌+◌, ◌*◌}
 use Rattle.std.proofs.Common.{add-one, arith, eqb-true, eq-eqb, ne_eqb}
 use Rattle.carv_budget.specs.declared.Account.{Account}
-use Rattle.carv_budget.specs.declared.Outcome.{Outcome}
-use Rattle.carv_budget.specs.Account.{number_of, blank, with_memory}
+use Rattle.carv_budget.specs.Account.{with_memory}
 use Rattle.carv_budget.proofs.Laws.Account.{both, first, second}
 use Rattle.replay_accounts.specs.declared.record.Call.{Call}
 use Rattle.replay_accounts.specs.declared.record.Reply.{Reply}
@@ -11,7 +10,7 @@ use Rattle.replay_accounts.specs.Record.{call, reply}
 use Rattle.replay_accounts.specs.declared.record.Op.{Op}
 use Rattle.replay_accounts.specs.declared.record.Op.TheVariants.{OpenAccount, Refill, ChargeCpu, ChargeMemory, ReleaseMemory, CarveOut, ReleaseChild}
 use Rattle.replay_accounts.specs.Op.{op_number}
-use Rattle.replay_accounts.specs.Replay.{left, made, same, same_reply, gives, agrees, differing}
+use Rattle.replay_accounts.specs.Replay.{made, same, same_reply, gives, agrees, differing}
 
 -- accounts whose figures are equal
 pub all_equal : (a b : Account) → a.cpu_allowance ≡ b.cpu_allowance → a.memory_limit ≡ b.memory_limit → a.period_start ≡ b.period_start
@@ -51,13 +50,6 @@ same_reply_told a b p =
 pub same_reply_shown : (a b : Reply) → a ≡ b → same_reply a b ≡ true
 unfolding same_reply
 same_reply_shown a b e = rw e (search (both, eq-eqb, same_shown, refl))
-
--- the child that a return leaves
-pub left_none : (o : Outcome (Unit {0})) (child : Account) → number_of o.answer ≡ 0 → left o child ≡ blank
-left_none o child p = rw (eq-eqb _ _ p)
-
-pub left_kept : (o : Outcome (Unit {0})) (child : Account) → (number_of o.answer ≡ 0 → ⊥) → left o child ≡ child
-left_kept o child p = rw (ne_eqb _ _ p)
 
 -- a call by its op, whose number is n: x is what was made of it, and b says whether x is r
 gives_op : (op : Op) (c : Call) (r : Reply) → same_reply (made op c) r ≡ gives (op_number op) c r

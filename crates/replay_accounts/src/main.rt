@@ -11,12 +11,10 @@ ghost use Rattle.replay_accounts.specs.Replay.{agrees};
 mod record;
 mod replay;
 
-use record::{call_at, reply_at};
+use record::{RECORD_BYTES, call_of, reply_of};
 use replay::matches;
 use replay_records::{Replay, replay_all};
 use std::io;
-
-const RECORD_BYTES: usize = 272;
 
 // A call on accounts brings them along, so nothing is kept from record to record.
 #[derive(Clone, Copy, Debug, PartialEq, Eq)]
@@ -26,7 +24,7 @@ impl Replay<RECORD_BYTES> for Accounts {
     ghost replays = { λ bytes before right after. right ≡ agrees (call bytes 0) (reply bytes 0) };
 
     fn replay(&mut self, bytes: &[u8; RECORD_BYTES]) -> bool {
-        matches(call_at(bytes, 0), reply_at(bytes, 0))
+        matches(call_of(bytes), reply_of(bytes))
     }
 
     ghost size_fits = { Prim.search rules };

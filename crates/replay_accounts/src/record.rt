@@ -1,10 +1,13 @@
 // Reading a record: 34 words of 8 bytes each, the least byte first.
-ghost use Rattle.std.specs.Prelude.{◌≡◌, ◌+◌, ◌*◌, ◌≤◌, length};
+ghost use Rattle.std.specs.Prelude.{◌≡◌, ◌+◌, ◌≤◌};
 ghost use Rattle.replay_accounts.specs.Record.{account, call, reply};
 ghost use Rattle.replay_accounts.specs.Op.{Decodes};
 
 use carv_area::get;
 use carv_budget::Account;
+use replay_records::UnlistedOp;
+
+pub const RECORD_BYTES: usize = 272;
 
 // Which call a record tells of.
 #[derive(Clone, Copy, Debug, PartialEq, Eq)]
@@ -18,16 +21,12 @@ pub enum Op {
     ReleaseChild,
 }
 
-// A number that stands for no call.
-#[derive(Clone, Copy, Debug, PartialEq, Eq)]
-pub struct UnknownOp(pub u64);
-
 impl TryFrom<u64> for Op {
-    type Error = UnknownOp;
+    type Error = UnlistedOp;
 
     ghost try_from_gives = { Decodes };
 
-    fn try_from(number: u64) -> Result<Op, UnknownOp> {
+    fn try_from(number: u64) -> Result<Op, UnlistedOp> {
         match number {
             1 => Ok(Op::OpenAccount),
             2 => Ok(Op::Refill),
@@ -36,12 +35,13 @@ impl TryFrom<u64> for Op {
             5 => Ok(Op::ReleaseMemory),
             6 => Ok(Op::CarveOut),
             7 => Ok(Op::ReleaseChild),
-            _ => Err(UnknownOp(number)),
+            _ => Err(UnlistedOp(number)),
         }
     }
 }
 
-// The call that a record tells of. Its op is the number as it was read.
+// The call that a record tells of. Its op is the number as it was read. Its arguments are fields, since specs/Replay.antt
+// says them by name, `c.first`, in what each op gives; an array would be read by number there.
 #[derive(Clone, Copy, Debug, PartialEq, Eq)]
 pub struct Call {
     pub op: u64,
@@ -63,47 +63,45 @@ pub struct Reply {
 
 // The account in the seven words from word number k on.
 #[tactic(auto, unfolding(crate::specs::Record::account))]
-fn account_at(buf: &[u8], k: usize) -> Account
-    requires { k * 8 + 56 ≤ length buf.now }
-    ensures { result ≡ account buf.now k }
+fn account_at(bytes: &[u8; RECORD_BYTES], k: usize) -> Account
+    requires { k + 7 ≤ 34 }
+    ensures { result ≡ account bytes.now k }
 {
     Account {
-        cpu_allowance: get(buf, k),
-        memory_limit: get(buf, k + 1),
-        period_start: get(buf, k + 2),
-        cpu_left: get(buf, k + 3),
-        cpu_reserved: get(buf, k + 4),
-        memory_used: get(buf, k + 5),
-        memory_reserved: get(buf, k + 6),
+        cpu_allowance: get(bytes, k),
+        memory_limit: get(bytes, k + 1),
+        period_start: get(bytes, k + 2),
+        cpu_left: get(bytes, k + 3),
+        cpu_reserved: get(bytes, k + 4),
+        memory_used: get(bytes, k + 5),
+        memory_reserved: get(bytes, k + 6),
     }
 }
 
-// The call of the record whose words are those from word number k on.
+// The call of a record.
 #[tactic(auto, unfolding(crate::specs::Record::call))]
-pub fn call_at(buf: &[u8], k: usize) -> Call
-    requires { k * 8 + 272 ≤ length buf.now }
-    ensures { result ≡ call buf.now k }
+pub fn call_of(bytes: &[u8; RECORD_BYTES]) -> Call
+    ensures { result ≡ call bytes.now 0 }
 {
     Call {
-        op: get(buf, k),
-        account: account_at(buf, k + 1),
-        child: account_at(buf, k + 8),
-        first: get(buf, k + 15),
-        second: get(buf, k + 16),
-        time: get(buf, k + 17),
+        op: get(bytes, 0),
+        account: account_at(bytes, 1),
+        child: account_at(bytes, 8),
+        first: get(bytes, 15),
+        second: get(bytes, 16),
+        time: get(bytes, 17),
     }
 }
 
-// The reply of that record.
+// The answer that it expects.
 #[tactic(auto, unfolding(crate::specs::Record::reply))]
-pub fn reply_at(buf: &[u8], k: usize) -> Reply
-    requires { k * 8 + 272 ≤ length buf.now }
-    ensures { result ≡ reply buf.now k }
+pub fn reply_of(bytes: &[u8; RECORD_BYTES]) -> Reply
+    ensures { result ≡ reply bytes.now 0 }
 {
     Reply {
-        number: get(buf, k + 18),
-        value: get(buf, k + 19),
-        account: account_at(buf, k + 20),
-        child: account_at(buf, k + 27),
+        number: get(bytes, 18),
+        value: get(bytes, 19),
+        account: account_at(bytes, 20),
+        child: account_at(bytes, 27),
     }
 }

@@ -3,10 +3,10 @@ ghost use Rattle.std.specs.Prelude.{◌≡◌};
 ghost use Rattle.replay_accounts.specs.Replay.{replied, opened, refilled, cpu_charged, memory_charged, memory_released, carved, returned, made, agrees};
 
 use crate::record::{Call, Op, Reply};
-use carv_budget::{Account, Outcome};
+use carv_budget::{Account, Outcome, number_of};
 
 // An outcome as a reply, beside its value and the child that the call leaves.
-fn reply_of<T: Copy>(done: Outcome<T>, value: u64, child: Account) -> Reply
+fn told<T: Copy>(done: Outcome<T>, value: u64, child: Account) -> Reply
     ensures { result ≡ replied done value child }
 {
     Reply {
@@ -24,8 +24,12 @@ fn open_account(call: Call) -> Reply
     ensures { result ≡ opened call }
 {
     let answer = Account::new(call.first, call.second, call.time);
-    let account = answer.unwrap_or(Account::BLANK);
-    reply_of(Outcome { account, answer }, 0, Account::BLANK)
+    Reply {
+        number: number_of(answer),
+        value: 0,
+        account: answer.unwrap_or(Account::BLANK),
+        child: Account::BLANK,
+    }
 }
 
 // The reply's value is 1 where a renewal was due.
@@ -35,7 +39,7 @@ fn refill(call: Call) -> Reply
 {
     let done = call.account.refill(call.time);
     let due = done.answer.unwrap_or(false);
-    reply_of(done, u64::from(due), Account::BLANK)
+    told(done, u64::from(due), Account::BLANK)
 }
 
 #[tactic(auto, unfolding(crate::specs::Replay::cpu_charged))]
@@ -43,7 +47,7 @@ fn charge_cpu(call: Call) -> Reply
     ensures { result ≡ cpu_charged call }
 {
     let done = call.account.charge_cpu(call.first, call.time);
-    reply_of(done, 0, Account::BLANK)
+    told(done, 0, Account::BLANK)
 }
 
 #[tactic(auto, unfolding(crate::specs::Replay::memory_charged))]
@@ -51,7 +55,7 @@ fn charge_memory(call: Call) -> Reply
     ensures { result ≡ memory_charged call }
 {
     let done = call.account.charge_memory(call.first);
-    reply_of(done, 0, Account::BLANK)
+    told(done, 0, Account::BLANK)
 }
 
 #[tactic(auto, unfolding(crate::specs::Replay::memory_released))]
@@ -59,7 +63,7 @@ fn release_memory(call: Call) -> Reply
     ensures { result ≡ memory_released call }
 {
     let done = call.account.release_memory(call.first);
-    reply_of(done, 0, Account::BLANK)
+    told(done, 0, Account::BLANK)
 }
 
 #[tactic(auto, unfolding(crate::specs::Replay::carved))]
@@ -68,7 +72,7 @@ fn carve_out(call: Call) -> Reply
 {
     let done = call.account.carve_out(call.first, call.second, call.time);
     let child = done.answer.unwrap_or(Account::BLANK);
-    reply_of(done, 0, child)
+    told(done, 0, child)
 }
 
 // The child stays as it is where the call is refused.
@@ -77,16 +81,17 @@ fn release_child(call: Call) -> Reply
     ensures { result ≡ returned call }
 {
     let done = call.account.release_child(call.child);
-    if done.number() == 0 {
-        return reply_of(done, 0, Account::BLANK);
+    if done.answer.is_ok() {
+        return told(done, 0, Account::BLANK);
     }
-    reply_of(done, 0, call.child)
+    told(done, 0, call.child)
 }
 
 // The reply that the call gets.
 fn make(op: Op, call: Call) -> Reply
     ensures { result ≡ made op call }
 {
+    // One arm a call: each asks another method of the account, with other arguments of the record.
     match op {
         Op::OpenAccount => open_account(call),
         Op::Refill => refill(call),

@@ -2,13 +2,16 @@
 use Rattle.std.specs.Prelude.{Bool, true, false, ◌⊎◌, ◌≡◌, ℕ, ◌+◌, ◌*◌, ◌≤◌, ◌<◌, length, replicate}
 use Rattle.std.proofs.lemmas.Bool.{false≢true}
 use mathlib.Core.List.{List}
-use Rattle.std.proofs.Common.{⊎_elim, ap, ◌∙◌, arith, lit<, add-zero}
+use Rattle.std.proofs.Common.{subst, ap, ◌∙◌, arith, lit<, add-zero}
+use Rattle.std.specs.Bool.{MatchBool}
+use Rattle.std.specs.List.{AllWithin, HoldsAt, range_with_len}
+use Rattle.std.proofs.lemmas.List.FromFn.{length-range_with_len, get_or-range_with_len}
 use Rattle.std.proofs.Math.Path.{refl, sym}
 use Rattle.std.proofs.Math.ListN.{get_or}
 use Rattle.std.proofs.Math.Seq.{ext_get_or}
 use borrow.Author.Tests.{lt-ltb, le-ltb}
 use Rattle.carv_area.specs.Lists.{tab}
-use Rattle.carv_area.specs.Laws.Lists.{length_tab, get_or_tab, same_or_not}
+use Rattle.carv_area.specs.Laws.Lists.{length_tab, get_or_tab}
 use Rattle.std.specs.Fork.{slice_chunk}
 use Rattle.replay_records.specs.Word.{word}
 use Rattle.replay_records.specs.Replayed as each
@@ -32,9 +35,6 @@ module _ (l : List ℕ) (k : ℕ) where
   abbrev pub AsRecorded : List ℕ → ℕ → Type 0
   AsRecorded out i = (j : ℕ) → j < i → get_or out j 0 ≡ recorded_word l k j
 
-  pub one_word_more : (out : List ℕ) (i v : ℕ) → AsRecorded out i → v ≡ recorded_word l k i → get_or out i 0 ≡ v → AsRecorded out (i + 1)
-  one_word_more out i v h p e j b = ⊎_elim (λ (q : j ≡ i). rw q (e ∙ p)) (λ n. h j (omega (arith, n))) (same_or_not j i)
-
   -- the number r and the words out are as recorded, or the number or a word is not
   module _ (out : List ℕ) (r v : ℕ) (p : v ≡ word l (k + 12)) where
     pub as_recorded : r ≡ v → length out ≡ 20 → AsRecorded out 20 → Tells true ((r ≡ word l (k + 12)) × (out ≡ recorded l k))
@@ -55,6 +55,19 @@ module _ (l : List ℕ) (k : ℕ) where
   unfolding recorded
   other_word out r i v b p n =
       (λ q. absurd (false≢true q), λ q. absurd (n (ap (λ (x : List ℕ). get_or x i 0) q.1 ∙ get_or_tab 20 (recorded_word l k) i 0 b ∙ sym p)))
+
+  -- the number is as recorded, and the words are asked one by one
+  pub words_tell : (out : List ℕ) (r v : ℕ) → v ≡ word l (k + 12) → r ≡ v → length out ≡ 20 → (b : Bool)
+      → MatchBool b (AllWithin (λ i. get_or out i 0 ≡ recorded_word l k i) (range_with_len 0 20) 0 (length (range_with_len 0 20)))
+          ((i : ℕ) × (i < length (range_with_len 0 20)) × HoldsAt (λ i. get_or out i 0 ≡ recorded_word l k i → ⊥) (range_with_len 0 20) i)
+      → Tells b ((r ≡ word l (k + 12)) × (out ≡ recorded l k))
+  words_tell out r v p e s true h = as_recorded out r v p e s (λ i b.
+      let q : get_or (range_with_len 0 20) i 0 ≡ i = omega (arith, get_or-range_with_len 0 20 i 0 b) in
+      subst (λ (j : ℕ). get_or out j 0 ≡ recorded_word l k j) q (h i 0 (omega arith) (omega (arith, b, length-range_with_len 0 20))))
+  words_tell out r v p e s false h =
+      let b : h.0 < 20 = omega (arith, h.1, length-range_with_len 0 20) in
+      let q : get_or (range_with_len 0 20) h.0 0 ≡ h.0 = omega (arith, get_or-range_with_len 0 20 h.0 0 b) in
+      other_word out r h.0 (recorded_word l k h.0) b refl (subst (λ (j : ℕ). get_or out j 0 ≡ recorded_word l k j → ⊥) q (h.2 0))
 
 -- a record's call that is not made, and one that is
 module _ (l : List ℕ) (k : ℕ) (a : List ℕ) (c : Call) (e : c ≡ call l k) where

@@ -10,7 +10,7 @@ use Rattle.carv_area.specs.Lists.{tab}
 use Rattle.replay_records.specs.Word.{word}
 use Rattle.replay_board.specs.declared.record.Op.{Op}
 use Rattle.replay_board.specs.declared.record.Op.TheVariants.{Open, Create, Insert, CreateBudget, ChargeMore, Uncharge, Remove, Refill, ChargeCpu, PaysForAnything, Account, ChargeOf, CreateUserThread, Start, BlockCurrent, Wake, IsBlockedOn, Kill, Tick, Plan, ReadThread, Current, Switches, ExitOf, Totals}
-use Rattle.replay_board.specs.declared.record.UnlistedOp.{UnlistedOp}
+use Rattle.replay_records.specs.declared.UnlistedOp.{UnlistedOp}
 use Rattle.replay_board.specs.declared.record.Call.{Call}
 
 -- the code of an op in a record
@@ -41,9 +41,9 @@ code Switches = 23
 code ExitOf = 24
 code Totals = 25
 
--- the op with this code, or a code that is not listed
+-- the op with this code, or the code, which is not listed
 abbrev pub Decodes : ℕ → Result Op UnlistedOp → Type 0
-Decodes n r = MatchResult r (λ op. n ≡ code op) (λ e. (n < 1) ⊎ (25 < n))
+Decodes n r = MatchResult r (λ op. n ≡ code op) (λ e. (e.0 ≡ n) × ((n < 1) ⊎ (25 < n)))
 
 -- the call of the record from word number k on
 unfoldable pub call : List ℕ → ℕ → Call

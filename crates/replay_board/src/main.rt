@@ -10,7 +10,7 @@ use replay::Board;
 use replay_records::replay_all;
 use std::io;
 
-// The bytes of the board.
+// The bytes of the board, as docs/LAYOUT.md gives them: carv and carv_scheduler export no constant for it.
 const AREA_BYTES: usize = 68_144;
 
 fn main(rt: HostRuntime) -> io::Result<()> {

@@ -4,6 +4,7 @@ ghost use Rattle.replay_records.specs.Word.{word};
 ghost use Rattle.replay_board.specs.Record.{Decodes, call, recorded_word, recorded, Tells};
 
 use carv_area::get;
+use replay_records::UnlistedOp;
 
 pub const RECORD_BYTES: usize = 272;
 
@@ -13,7 +14,7 @@ pub const ANSWER_WORDS: usize = 20;
 // What each answer word holds before a call.
 pub const UNWRITTEN: u64 = 6_148_914_691_236_517_205;
 
-// The calls. Those of the registry alone have other numbers in the records of replay_objects, from 13 on.
+// The calls. Those of the registry have the same numbers in the records of replay_objects, but for Totals, which is 13 there.
 #[derive(Clone, Copy, Debug, PartialEq, Eq)]
 pub enum Op {
     Open,
@@ -42,10 +43,6 @@ pub enum Op {
     ExitOf,
     Totals,
 }
-
-// A number that no op has.
-#[derive(Clone, Copy, Debug, PartialEq, Eq)]
-pub struct UnlistedOp(pub u64);
 
 impl TryFrom<u64> for Op {
     type Error = UnlistedOp;
@@ -84,7 +81,8 @@ impl TryFrom<u64> for Op {
     }
 }
 
-// The call that a record tells of: its code and its arguments. These have names, as `Made` in specs/Replay.antt reads them by place.
+// The call that a record tells of: its code and its arguments. These are fields, since specs/Replay.antt says them by name, `c.first`, in each
+// case of `Made`; an array would be read by number there.
 #[derive(Clone, Copy, Debug, PartialEq, Eq)]
 pub struct Call {
     pub op: u64,
@@ -102,6 +100,7 @@ pub struct Call {
 }
 
 // The call of a record.
+#[tactic(auto, unfolding(crate::specs::Record::call))]
 pub fn call_of(bytes: &[u8; RECORD_BYTES]) -> Call
     ensures { result ≡ call bytes.now 0 }
 {
@@ -136,13 +135,6 @@ fn recorded_word(bytes: &[u8; RECORD_BYTES], i: usize) -> u64
 pub fn is_recorded(bytes: &[u8; RECORD_BYTES], number: u64, out: &[u64; ANSWER_WORDS]) -> bool
     ensures { Tells result ((number ≡ word bytes.now 12) × (out.now ≡ recorded bytes.now 0)) }
 {
-    if number != get(bytes, 12) {
-        return false;
-    }
-    for (i, word) in out.iter().enumerate() {
-        if *word != recorded_word(bytes, i) {
-            return false;
-        }
-    }
-    true
+    number == get(bytes, 12)
+        && (0..ANSWER_WORDS).all(|i| out[i] == recorded_word(bytes, i))
 }

@@ -11,7 +11,7 @@ use Rattle.std.specs.Prelude.{◌≡◌, false, ◌&&◌, ℕ, ◌+◌, List, le
 use Rattle.replay_records.specs.Word.{word}
 use Rattle.replay_objects.specs.declared.record.Op.{Op}
 use Rattle.replay_objects.specs.declared.record.Op.TheVariants.{Open, Create, Insert, CreateBudget, ChargeMore, Uncharge, Remove, Refill, ChargeCpu, PaysForAnything, Account, ChargeOf, Totals}
-use Rattle.replay_objects.specs.declared.record.UnlistedOp.{UnlistedOp}
+use Rattle.replay_records.specs.declared.UnlistedOp.{UnlistedOp}
 use Rattle.replay_objects.specs.declared.record.Call.{Call}
 use Rattle.replay_objects.specs.declared.record.Reply.{Reply}
 
@@ -31,9 +31,9 @@ code Account = 11
 code ChargeOf = 12
 code Totals = 13
 
--- the op with this number, or a number that is not listed
+-- the op with this number, or the number, which is not listed
 abbrev pub Decodes : ℕ → Result Op UnlistedOp → Type 0
-Decodes n r = MatchResult r (λ op. n ≡ code op) (λ e. (leb 1 n && leb n 13) ≡ false)
+Decodes n r = MatchResult r (λ op. n ≡ code op) (λ e. (e.0 ≡ n) × ((leb 1 n && leb n 13) ≡ false))
 
 -- the call of the record from word number k on
 unfoldable pub call : List ℕ → ℕ → Call

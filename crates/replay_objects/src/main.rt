@@ -10,12 +10,9 @@ use replay::Registry;
 use replay_records::replay_all;
 use std::io;
 
-// The bytes of the registry.
-const AREA_BYTES: usize = 45_072;
-
 fn main(rt: HostRuntime) -> io::Result<()> {
     let mut registry = Registry {
-        area: [0; AREA_BYTES],
+        area: [0; carv_objects::BYTES],
     };
     let run = replay_all(&mut rt.stdin(), &mut registry);
     println!(rt; "{}", run.tally)

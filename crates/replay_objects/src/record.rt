@@ -3,6 +3,7 @@ ghost use Rattle.std.specs.Prelude.{◌≡◌};
 ghost use Rattle.replay_objects.specs.Record.{Decodes, call, reply};
 
 use carv_area::get;
+use replay_records::UnlistedOp;
 
 pub const RECORD_BYTES: usize = 128;
 
@@ -23,10 +24,6 @@ pub enum Op {
     ChargeOf,
     Totals,
 }
-
-// A number that no op has.
-#[derive(Clone, Copy, Debug, PartialEq, Eq)]
-pub struct UnlistedOp(pub u64);
 
 impl TryFrom<u64> for Op {
     type Error = UnlistedOp;
@@ -53,7 +50,8 @@ impl TryFrom<u64> for Op {
     }
 }
 
-// The call that a record tells of. Its arguments have names, as `Made` in specs/Replay.antt reads them by place.
+// The call that a record tells of. Its arguments are fields, since specs/Replay.antt says them by name, `c.first`, in each case of `Made`; an
+// array would be read by number there.
 #[derive(Clone, Copy, Debug, PartialEq, Eq)]
 pub struct Call {
     pub op: u64,
@@ -63,8 +61,9 @@ pub struct Call {
     pub fourth: u64,
 }
 
-// An answer: its number, and its values, as many as it has, the rest 0.
-#[derive(Clone, Copy, Debug, PartialEq, Eq)]
+// An answer: its number, and its values, as many as it has, the rest 0. These are fields, since `told` in specs/Replay.antt
+// and the comparison there say them by name.
+#[derive(Clone, Copy, Debug, PartialEq, Eq, Default)]
 pub struct Reply {
     pub number: u64,
     pub first: u64,

@@ -6,7 +6,6 @@ ghost use Rattle.carv_objects.specs.Answer as answer;
 ghost use Rattle.replay_objects.specs.Record.{code};
 ghost use Rattle.replay_objects.specs.Replay.{numbered, told, replied, Made, Agrees, replays_record};
 
-use crate::AREA_BYTES;
 use crate::record::{Call, Op, RECORD_BYTES, Reply, call_of, reply_of};
 use carv_budget::Account;
 use carv_objects::{Charge, Refusal};
@@ -21,15 +20,12 @@ fn short(number: u64, first: u64, second: u64) -> Reply
         number,
         first,
         second,
-        third: 0,
-        fourth: 0,
-        fifth: 0,
-        sixth: 0,
-        seventh: 0,
+        ..Reply::default()
     }
 }
 
-// What an accepted call answers.
+// What an accepted call answers. Beside carv's `Reported`, since this program is below carv: it compares what carv_objects answers, in
+// records of its own.
 trait Told {
     // The value that it tells.
     ghost tells: { Self → Option Value };
@@ -100,6 +96,7 @@ impl Told for Totals {
     }
 }
 
+// The number of a refusal is read off here, and not by `number_of`: carv's is private, and carv_budget's is of another error.
 impl<T: Told> From<Result<T, Refusal>> for Reply {
     ghost from_gives = { λ answer reply. reply ≡ replied T.tells answer };
 
@@ -123,6 +120,7 @@ fn make(area: &mut [u8], op: Op, call: Call) -> Reply
         fourth,
         ..
     } = call;
+    // One arm a call: each takes other arguments of the record.
     match op {
         Op::Open => carv_objects::open(area, first, second).into(),
         Op::Create => carv_objects::create(area, first, second, third == 1).into(),
@@ -153,7 +151,7 @@ fn matches(area: &mut [u8], call: Call, reply: Reply) -> bool
 // The registry that the calls are made on.
 #[derive(Drop)]
 pub struct Registry {
-    pub area: [u8; AREA_BYTES],
+    pub area: [u8; carv_objects::BYTES],
 }
 
 impl Replay<RECORD_BYTES> for Registry {

@@ -2,9 +2,9 @@
 // counting what the blocks give. A program is an impl of Replay: what a record is, and what its replay says and leaves.
 #![tactic(auto)]
 
-ghost use Rattle.std.specs.Prelude.{◌≡◌, ◌+◌, ◌/◌, ◌≤◌, ◌<◌, ◌⊎◌, ℕ, Bool, List, length, take, drop, IsFalse};
+ghost use Rattle.std.specs.Prelude.{◌≡◌, ◌+◌, ◌/◌, ◌≤◌, ◌<◌, ◌⊎◌, ◌%◌, ℕ, Bool, not, eqb, List, length, take, drop, IsFalse};
 ghost use Rattle.std.specs.Io.KnownBytes.{Consumes, IsAtEnd};
-ghost use Rattle.replay_records.specs.Tally.{block_bytes, cut, started, added, Room, Counted, Taken, Told, most_calls};
+ghost use Rattle.replay_records.specs.Tally.{block_bytes, started, added, Room, Counted, Taken, Told, most_calls};
 ghost use Rattle.replay_records.specs.Replayed.{Replays};
 ghost use Rattle.replay_records.specs.declared.TheConstants.{BUFFER_BYTES};
 
@@ -37,8 +37,12 @@ pub trait Replay<const SIZE: usize> {
     ghost size_fits: { (0 < SIZE) × (SIZE ≤ BUFFER_BYTES) };
 }
 
+// A number that is no op's.
+#[derive(Clone, Copy, Debug, PartialEq, Eq)]
+pub struct UnlistedOp(pub u64);
+
 // What the blocks so far give, and how many more may come. A proved loop has to end, and nothing says that the input does. So the
-// blocks are counted down, from a number that no run uses up.
+// blocks are counted down, from a number that no run uses up. That there is room for them is a clause: it holds between blocks.
 #[derive(Clone, Copy, Debug, PartialEq, Eq)]
 pub struct Tally {
     pub calls: u64,
@@ -79,13 +83,14 @@ impl Tally {
         };
         Tally {
             calls: self.calls + (n / size) as u64,
-            differences: self.differences + differences + cut_short(n, size),
+            differences: self.differences + differences + u64::from(is_cut(n, size)),
             blocks,
         }
     }
 }
 
-// The bytes of a full block: as many records of `size` bytes as the buffer holds.
+// The bytes of a full block: as many records of `size` bytes as the buffer holds. The size is a number, here and in `Tally`, which is of no
+// program; what replays has it as a const parameter.
 #[tactic(auto, unfolding(crate::specs::Tally::block_bytes))]
 fn block_bytes(size: usize) -> usize
     requires { 0 < size }
@@ -94,16 +99,15 @@ fn block_bytes(size: usize) -> usize
     BUFFER_BYTES / size * size
 }
 
-// 1 where n bytes end inside a record of `size` bytes.
-#[tactic(auto, unfolding(crate::specs::Tally::cut))]
-fn cut_short(n: usize, size: usize) -> u64
+// Do n bytes end inside a record of `size` bytes?
+fn is_cut(n: usize, size: usize) -> bool
     requires { 0 < size }
-    ensures { (result ≡ cut n size) × (result ≤ 1) }
+    ensures { result ≡ not (eqb (n % size) 0) }
 {
-    u64::from(n % size != 0)
+    n % size != 0
 }
 
-// What was read: how many bytes, and whether a read failed behind them.
+// What was read: how many bytes, and whether a read failed behind them. No Result: bytes that were read before a failure count.
 #[derive(Clone, Copy, Debug, PartialEq, Eq)]
 struct Reading {
     bytes: usize,
@@ -118,6 +122,7 @@ fn read_full<R: Read>(input: &mut R, buf: &mut [u8]) -> Reading
 {
     let mut bytes = 0;
     let mut failed = false;
+    // No `for`: how far a read gets is known only after it.
     while bytes < buf.len() {
         match input.read(&mut buf[bytes..]) {
             Ok(0) => break,
@@ -165,7 +170,7 @@ fn differences<const SIZE: usize, P: Replay<SIZE>>(
     count
 }
 
-// What was replayed, and whether a read failed, which counts as the end of the input.
+// What was replayed, and whether a read failed, which counts as the end of the input. No Result: what was replayed before counts.
 #[derive(Clone, Copy, Debug, PartialEq, Eq)]
 pub struct Run {
     pub tally: Tally,
@@ -184,10 +189,11 @@ fn next_block<const SIZE: usize, R: Read, P: Replay<SIZE>>(
         (R.remaining input.old) (R.remaining input.new) }
     ensures room { Room result.tally × (result.tally.blocks < tally.blocks) }
 {
+    // Of fixed size: no heap.
     let mut buf = [0; BUFFER_BYTES];
     let read = read_block(input, &mut buf, SIZE);
     let different = differences(program, &buf[..read.bytes], tally.calls);
-    if cut_short(read.bytes, SIZE) == 1 {
+    if is_cut(read.bytes, SIZE) {
         program.tell_cut();
     }
     Run {
@@ -210,6 +216,7 @@ pub fn replay_all<const SIZE: usize, R: Read, P: Replay<SIZE>>(
         tally: Tally::start(),
         failed: false,
     };
+    // No `for`: the tally counts the blocks that may come, and a block that isn't full ends them. A range would count them once more.
     while run.tally.blocks > 0 {
         run = next_block(input, program, run.tally);
     }

@@ -121,7 +121,7 @@
 //! is at most that budget's share. With a clock that falls it may be more; no call asks for it. The
 //! tick that a sleep waits for is none of these times.
 //!
-//! Stack. A call takes at most [`STACK_BYTES`] in a release build: 18,096 bytes of it are the
+//! Stack. A call takes at most [`STACK_BYTES`] in a release build: 18,112 bytes of it are the
 //! library's (`docs/LAYOUT.md` has each function). The wrapper adds some hundred bytes, a KiB where
 //! it answers a register image by value, and half a KiB with `save-sse`; a build without
 //! optimization takes up to 4 KiB more. Only what answers a [`Board`] by value, [`Board::open`],

@@ -1,8 +1,7 @@
 -- From an entry point of the board to its C function. Assumes nothing.
-use Rattle.std.specs.Prelude.{◌≡◌, refl, List, [], ℕ, length, Option, Some, None, Result, Ok, Err}
+use Rattle.std.specs.Prelude.{◌≡◌, refl, true, false, List, [], ℕ, eqb, length, Option, Some, None, Result, Ok, Err}
 use Rattle.std.proofs.Common.{ap, sym, ◌∙◌}
 use Rattle.std.proofs.lemmas.List.Edits.{sets}
-use Rattle.std.proofs.lemmas.Bool.{eqb-false}
 use Rattle.carv_objects_spec.specs.declared.Totals.{Totals}
 use Rattle.carv_objects_spec.specs.Reply.{of_totals}
 use Rattle.carv_objects.specs.declared.refusal.Refusal.{Refusal}
@@ -11,7 +10,7 @@ use Rattle.carv_scheduler_spec.specs.Scheduler.{Board, BoardReply, Value, of_reg
 use Rattle.carv_scheduler.specs.Answer.{value, nothing}
 use Rattle.carv_scheduler.specs.Area.{Answered, Opened}
 use Rattle.carv_scheduler.specs.Creating.{Created}
-use Rattle.carv.specs.C.{totals_words, told_words, written, reported, itself, Called, Opens, CreatesInC}
+use Rattle.carv.specs.C.{totals_words, told_words, written, reported, itself, Reports, Called, Opens, CreatesInC}
 
 -- an answer by the values that it tells
 pub told : {T : Type 0} → (T → Option Value) → Result T Refusal → Result (Option Value) Refusal
@@ -49,35 +48,37 @@ module _ {T : Type 0} (tells : T → Option Value) where
   written_told words e (Ok x) out = ap (sets out 0) (sym (e x))
   written_told words e (Err n) out = refl
 
--- the answer x of a call is reported
-pub returned : {T : Type 0} {tells : T → Option Value} {words : T → List ℕ} → ((x : T) → told_words (tells x) ≡ words x) → (call : Board → BoardReply) (a out : List ℕ) → length out ≡ 20
-    → (x : Result T Refusal) (a' : List ℕ) → Answered call tells a x a' → (r : ℕ) (out' : List ℕ) → (r ≡ number x) × (out' ≡ written words x out) → Called call a out r a' out'
-returned {T = T} {tells = tells} {words = words} w call a out e x a' h r out' p = record {
-  size = λ q. absurd (eqb-false (length out) 20 q e);
-  reports = λ q. record {
-    answer = told tells x;
-    said = told_answered tells call a x a' h;
-    number = p.0 ∙ sym (told_number tells x);
-    values = p.1 ∙ written_told tells words w x out ∙ sym (told_reported tells x out);
-  };
+-- an answer that a call gave is reported, told by its value
+reports : {T : Type 0} {tells : T → Option Value} {words : T → List ℕ} → ((x : T) → told_words (tells x) ≡ words x) → (call : Board → BoardReply) {a out : List ℕ} {r : ℕ} {a' out' : List ℕ}
+    → (x : Result T Refusal) × Answered call tells a x a' × (r ≡ number x) × (out' ≡ written words x out) → Reports itself (Answered call itself a) out r a' out'
+reports {tells = tells} {words = words} w call {a = a} {out = out} {a' = a'} h = record {
+  answer = told tells h.0;
+  said = told_answered tells call a h.0 a' h.1;
+  number = h.2 ∙ sym (told_number tells h.0);
+  values = h.3 ∙ written_told tells words w h.0 out ∙ sym (told_reported tells h.0 out);
 }
 
--- and of an opening
-pub returned_opened : (cpu memory : ℕ) (a out : List ℕ) → length out ≡ 20 → (x : Result (Unit {0}) Refusal) (a' : List ℕ) → Opened cpu memory a x a'
-    → (r : ℕ) (out' : List ℕ) → (r ≡ number x) × (out' ≡ written (λ u. []) x out) → Opens cpu memory a out r a' out'
-returned_opened cpu memory a out e x a' h r out' p = record {
-  size = λ q. absurd (eqb-false (length out) 20 q e);
-  reports = λ q. record { answer = x; said = h; number = p.0; values = p.1 ∙ written_told nothing (λ u. []) (λ u. refl) x out };
-}
+-- and one without a value
+reports_nothing : {says : Result (Unit {0}) Refusal → List ℕ → Type 0} {out : List ℕ} {r : ℕ} {a' out' : List ℕ}
+    → (x : Result (Unit {0}) Refusal) × says x a' × (r ≡ number x) × (out' ≡ written (λ u. []) x out) → Reports nothing says out r a' out'
+reports_nothing {out = out} h = record { answer = h.0; said = h.1; number = h.2; values = h.3 ∙ written_told nothing (λ u. []) (λ u. refl) h.0 out }
 
--- the same of a call that is lent a register image
-module _ (call : Board → BoardReply) (a m out : List ℕ) where
-  pub c_created : length out ≡ 20 → (x : Result (Unit {0}) Refusal) (a' m' : List ℕ) → Created call a m x a' m' → (r : ℕ) (out' : List ℕ) → (r ≡ number x) × (out' ≡ written (λ u. []) x out)
-      → CreatesInC call a m out r a' m' out'
-  c_created e x a' m' h r out' p = record {
-    size = λ q. absurd (eqb-false (length out) 20 q e);
-    reports = λ q. record { answer = x; said = h; number = p.0; values = p.1 ∙ written_told nothing (λ u. []) (λ u. refl) x out };
-  }
+-- What `answered` ensures: of a call, of an opening, of a call that is lent a register image.
+
+pub called : {T : Type 0} {tells : T → Option Value} {words : T → List ℕ} → ((x : T) → told_words (tells x) ≡ words x) → {call : Board → BoardReply} {a out : List ℕ} {r : ℕ} {a' out' : List ℕ}
+    → (eqb (length out) 20 ≡ false → (r ≡ 1) × (a' ≡ a) × (out' ≡ out))
+    → (eqb (length out) 20 ≡ true → (x : Result T Refusal) × Answered call tells a x a' × (r ≡ number x) × (out' ≡ written words x out)) → Called call a out r a' out'
+called w {call = call} other made = record { size = other; reports = λ q. reports w call (made q) }
+
+pub opened : {cpu memory : ℕ} {a out : List ℕ} {r : ℕ} {a' out' : List ℕ}
+    → (eqb (length out) 20 ≡ false → (r ≡ 1) × (a' ≡ a) × (out' ≡ out))
+    → (eqb (length out) 20 ≡ true → (x : Result (Unit {0}) Refusal) × Opened cpu memory a x a' × (r ≡ number x) × (out' ≡ written (λ u. []) x out)) → Opens cpu memory a out r a' out'
+opened other made = record { size = other; reports = λ q. reports_nothing (made q) }
+
+pub created : {call : Board → BoardReply} {a m out : List ℕ} {r : ℕ} {a' m' out' : List ℕ}
+    → (eqb (length out) 20 ≡ false → (r ≡ 1) × (a' ≡ a) × (m' ≡ m) × (out' ≡ out))
+    → (eqb (length out) 20 ≡ true → (x : Result (Unit {0}) Refusal) × Created call a m x a' m' × (r ≡ number x) × (out' ≡ written (λ u. []) x out)) → CreatesInC call a m out r a' m' out'
+created other made = record { size = other; reports = λ q. reports_nothing (made q) }
 
 -- P1: an answer whose value is a budget's totals is reported in the first three answer words
 pub totals_written : (x : Result (Option Value) Refusal) (t : Totals) (out : List ℕ) → value itself x ≡ Some (of_registry (of_totals t)) → reported itself x out ≡ sets out 0 (totals_words t)

@@ -1,7 +1,8 @@
 -- `carv::carv_open` meets its contract. Assumes nothing.
-use Rattle.carv.proofs.Laws.Reporting.{returned_opened}
+use borrow.Author.Rules.{rules}
+use Rattle.std.proofs.Common.{of_calls}
+use Rattle.carv.proofs.Laws.Reporting.{opened}
 use Rattle.carv.proofs.carv_open.Goals as goal
 
 pub returns : goal.returns
-returns c =
-    returned_opened _ _ _ _ c.if-out-ne-WORDS.false _ _ c.open-answer.ensures _ _ c.report.ensures
+returns c = opened (λ q. search rules) (λ q. search (rules, of_calls))

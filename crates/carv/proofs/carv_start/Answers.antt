@@ -1,8 +1,10 @@
 -- `carv::carv_start` meets its contract. Assumes nothing.
-use Rattle.std.proofs.Common.{refl}
-use Rattle.carv.proofs.Laws.Reporting.{returned}
+use borrow.Author.Rules.{rules}
+use Rattle.std.proofs.Common.{refl, of_calls}
+use Rattle.carv_scheduler.specs.Answer.{nothing}
+use Rattle.carv.proofs.Laws.Reporting.{called}
 use Rattle.carv.proofs.carv_start.Goals as goal
 
 pub returns : goal.returns
 returns c =
-    returned (λ x. refl) _ _ _ c.if-out-ne-WORDS.false _ _ c.start-answer.ensures _ _ c.report.ensures
+    called {tells = nothing} (λ x. refl) (λ q. search rules) (λ q. search (rules, of_calls))

@@ -12,7 +12,7 @@ use Rattle.std.proofs.Math.Seq.{sets, paste, split_at, set_split, length-take-le
 use Rattle.std.proofs.lemmas.List.Edits.{sets-eq}
 use Rattle.carv_area.specs.Zero.{all_zero}
 use Rattle.carv_area.specs.Laws.Zero.{all_zero_lem}
-use Rattle.carv_area.specs.Moves.{zeros, move_down, cut_row, open_row}
+use Rattle.carv_area.specs.Moves.{zeros, move_down, cut_row, open_row, add_row}
 use Rattle.carv_area.specs.Rows.{flat, Holds, remove_at, insert_at}
 
 -- zeros, cut in two
@@ -27,6 +27,20 @@ module _ {ℓ} {B : Type ℓ} where
   sets_seam p us r vs o hp hu =
       sets-eq vs (p ++ (us ++ r)) o (simp (length-append) (omega arith))
       ∙ rw (take_at p (us ++ r) o hp, ← (append_assoc p us r), drop_at (p ++ us) r (o + length vs) (simp length-append (omega arith))) (append_assoc p vs r)
+
+  -- the words us are put into the words f, from their place c on
+  pub sets_inside : (p f r us : List B) (o c : ℕ) → length p ≡ o → c + length us ≤ length f → sets (p ++ (f ++ r)) (o + c) us ≡ p ++ (sets f c us ++ r)
+  sets_inside p f r us o c hp hu =
+      let n = length us in
+      let a = length-take-le c f (omega arith) in
+      let b = length-take-le n (drop c f) (simp length-drop (omega arith)) in
+      let q : f ≡ take c f ++ (take n (drop c f) ++ drop (c + n) f) =
+      sym (take-append-drop c f) ∙ ap (λ (l : List B). take c f ++ l) (sym (take-append-drop n (drop c f)) ∙ ap (λ (l : List B). take n (drop c f) ++ l) (drop-drop n c f)) in
+      let g : p ++ (f ++ r) ≡ (p ++ take c f) ++ (take n (drop c f) ++ (drop (c + n) f ++ r)) =
+      ap (λ (l : List B). p ++ (l ++ r)) q ∙ simp append_assoc in
+      ap (λ (l : List B). sets l (o + c) us) g
+      ∙ sets_seam (p ++ take c f) (take n (drop c f)) (drop (c + n) f ++ r) us (o + c) (simp length-append (omega arith)) b
+      ∙ rw (sets-eq us f c hu) (simp append_assoc)
 
   -- the words x are taken out, those behind it, q, move down, and the words zs fill the gap
   pub gap_seam : (p x q z zs : List B) (o c m : ℕ) → length p ≡ o → length x ≡ c → length q ≡ m → length zs ≡ c
@@ -154,19 +168,32 @@ module _ {A : Type 0} (fields : A → List ℕ) (width : ℕ) (wide : (a : A) �
         (length_front i (omega arith)) (wide (get_or xs i e) ∙ sym (wide e)) in
         hold _ _ h.spare (f ∙ rw (length-set, set_split xs i e a, flat_append) (simp append_assoc))
 
-    -- a row is put behind the others
-    pub holds_append : (e : A) (n : ℕ) (l₁ l₂ : List ℕ) → n ≡ length xs → width ≤ h.spare
-        → l₁ ≡ sets l (n * width + 1) (fields e) → l₂ ≡ set l₁ 0 (n + 1) → Holds fields width l₂ (xs ++ (e ∷ []))
+    -- some words of a row are replaced
+    pub holds_some : (i : ℕ) (d e : A) (c k : ℕ) (us : List ℕ) → i < length xs → c + length us ≤ width → k ≡ i * width + 1 + c
+        → fields e ≡ sets (fields (get_or xs i d)) c us → Holds fields width (sets l k us) (set xs i e)
     unfolding flat
-    holds_append e n l₁ l₂ en a e₁ e₂ =
+    holds_some i d e c k us a b ek q =
+        let f : sets l k us ≡ (length xs ∷ flat fields (take i xs)) ++ (fields e ++ (flat fields (drop (suc i) xs) ++ zeros h.spare)) =
+        ap (λ (r : List ℕ). sets r k us) (holds_split i d a)
+        ∙ rw (ek, q) (sets_inside (length xs ∷ flat fields (take i xs)) (fields (get_or xs i d)) (flat fields (drop (suc i) xs) ++ zeros h.spare) us (i * width + 1) c
+        (length_front i (omega arith)) (rw wide b)) in
+        hold _ _ h.spare (f ∙ rw (length-set, set_split xs i e a, flat_append) (simp append_assoc))
+
+    -- a row is put behind the others
+    pub holds_append : (e : A) → width ≤ h.spare → Holds fields width (add_row (fields e) l) (xs ++ (e ∷ []))
+    unfolding flat add_row
+    holds_append e a =
+        let n = get_or l 0 0 in
+        let en : n ≡ length xs = h.count in
+        let l₁ = sets l (n * length (fields e) + 1) (fields e) in
         let z = zeros_split width h.spare a in
         let s : l ≡ (length xs ∷ flat fields xs) ++ (zeros width ++ zeros (h.spare - width)) =
         h.is ∙ ap (λ (r : List ℕ). length xs ∷ (flat fields xs ++ r)) z in
         let f : l₁ ≡ (length xs ∷ flat fields xs) ++ (fields e ++ zeros (h.spare - width)) =
-        e₁ ∙ ap (λ (r : List ℕ). sets r (n * width + 1) (fields e)) s
+        ap (λ (k : ℕ). sets l (n * k + 1) (fields e)) (wide e) ∙ ap (λ (r : List ℕ). sets r (n * width + 1) (fields e)) s
         ∙ sets_seam (length xs ∷ flat fields xs) (zeros width) (zeros (h.spare - width)) (fields e) (n * width + 1)
         (rw (add-one, en) (ap suc (length_flat xs))) (length-replicate width 0 ∙ sym (wide e)) in
-        hold _ _ (h.spare - width) (e₂ ∙ ap (λ (r : List ℕ). set r 0 (n + 1)) f ∙ rw (en, length-append, flat_append) (simp (append_assoc, append-nil)))
+        hold _ _ (h.spare - width) (ap (λ (r : List ℕ). set r 0 (n + 1)) f ∙ rw (en, length-append, flat_append) (simp (append_assoc, append-nil)))
 
     -- a row is taken out
     pub holds_remove : (d : A) (i : ℕ) → i < length xs → Holds fields width (cut_row width i (get_or l 0 0) l) (remove_at xs i)

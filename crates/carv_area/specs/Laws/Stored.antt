@@ -8,9 +8,9 @@ use Rattle.carv_area.specs.Lists.{tab}
 use Rattle.carv_area.specs.Laws.Lists.{length_tab, get_or_tab, get_d_any}
 use Rattle.carv_area.specs.Words.{words, rest}
 use Rattle.carv_area.specs.Laws.Words.{length_words, bytes_fixed}
-use Rattle.carv_area.specs.Moves.{cut_row, open_row}
+use Rattle.carv_area.specs.Moves.{cut_row, open_row, add_row}
 use Rattle.carv_area.specs.Rows.{Holds, remove_at, insert_at}
-use Rattle.carv_area.specs.Laws.Rows.{holds_inj, holds_word, holds_set, holds_append, holds_remove, holds_insert}
+use Rattle.carv_area.specs.Laws.Rows.{holds_inj, holds_word, holds_set, holds_some, holds_append, holds_remove, holds_insert}
 use Rattle.carv_area.specs.Laws.Search.{rows_few}
 use Rattle.carv_area.specs.Keys.{keys, Rising}
 use Rattle.carv_area.specs.Laws.Keys.{length_keys, get_or_keys}
@@ -58,15 +58,17 @@ module _ {A : Type 0} (fields : A → List ℕ) (w : ℕ) where
     pub stored_set : (i : ℕ) (e : A) → i < length xs → words t' ≡ sets (words t) (i * w + 1) (fields e) → Stored fields w t' (set xs i e)
     stored_set i e a q = stored t' (set xs i e) (rw q (holds_set fields w wide (words t) xs h.holds i e a))
 
-    -- a row is written behind the others, and then the count
-    pub stored_append : (e : A) (n : ℕ) (l : List ℕ) → n ≡ get_or (words t) 0 0 → (n * w + w + 1) * 8 ≤ length t
-        → l ≡ sets (words t) (n * w + 1) (fields e) → words t' ≡ set l 0 (n + 1) → Stored fields w t' (xs ++ (e ∷ []))
-    stored_append e n l en a p q =
-        let c : n ≡ length xs = en ∙ h.holds.count in
-        let b : (length xs * w + w + 1) * 8 ≤ length t = rw c at a in
+    -- some words of row i are written
+    pub stored_some : (d : A) (i : ℕ) (e : A) (c k : ℕ) (us : List ℕ) → i < length xs → c + length us ≤ w → k ≡ i * w + 1 + c
+        → fields e ≡ sets (fields (get_or xs i d)) c us → words t' ≡ sets (words t) k us → Stored fields w t' (set xs i e)
+    stored_some d i e c k us a b ek q r = stored t' (set xs i e) (rw r (holds_some fields w wide (words t) xs h.holds i d e c k us a b ek q))
+
+    -- `append_row`
+    pub stored_append : (e : A) → (length xs * w + w + 1) * 8 ≤ length t → words t' ≡ add_row (fields e) (words t) → Stored fields w t' (xs ++ (e ∷ []))
+    stored_append e a q =
         let s = h.holds.size in
         let z = h.size in
-        stored t' (xs ++ (e ∷ [])) (holds_append fields w wide (words t) xs h.holds e n l (words t') c (omega arith) p q)
+        stored t' (xs ++ (e ∷ [])) (rw q (holds_append fields w wide (words t) xs h.holds e (omega arith)))
 
     -- `remove_row`
     pub stored_remove : (d : A) (i : ℕ) → i < length xs → words t' ≡ cut_row w i (get_or (words t) 0 0) (words t) → Stored fields w t' (remove_at xs i)
@@ -112,8 +114,8 @@ queue_is l q h = keys_are one 1 wide_one (λ x. x) (λ x. refl) 0 (omega arith) 
 -- `push` and `pull`
 module _ (t t' q : List ℕ) (h : Queue t q) where
   -- a number is put behind the others
-  pub queue_push : (v n : ℕ) (l : List ℕ) → n ≡ get_or (words t) 0 0 → (n + 1) * 8 + 8 ≤ length t → l ≡ set (words t) (n + 1) v → words t' ≡ set l 0 (n + 1) → Queue t' (q ++ (v ∷ []))
-  queue_push v n l en a p r = stored_append one 1 wide_one t t' q h v n l en (rw mul-one (omega arith)) (rw mul-one p) r
+  pub queue_push : (v : ℕ) → (length q + 1) * 8 + 8 ≤ length t → words t' ≡ add_row (v ∷ []) (words t) → Queue t' (q ++ (v ∷ []))
+  queue_push v a r = stored_append one 1 wide_one t t' q h v (rw mul-one (omega arith)) r
 
   -- a number is taken out
   pub queue_pull : (i : ℕ) → i < length q → words t' ≡ cut_row 1 i (get_or (words t) 0 0) (words t) → Queue t' (remove_at q i)

@@ -1,5 +1,5 @@
 -- The laws of `Words`: the words after a store of a word, and the bytes behind the last whole word; these and the words are every byte (`bytes_fixed`). Assumes nothing.
-use Rattle.std.specs.Prelude.{ℕ, zero, suc, ◌+◌, ◌*◌, ◌-◌, ◌/◌, ◌%◌, ◌^◌, ◌≤◌, ◌<◌, ◌≡◌, refl, List, [], ◌∷◌, ◌++◌, set, take, drop, replicate}
+use Rattle.std.specs.Prelude.{ℕ, zero, suc, map, ◌+◌, ◌*◌, ◌-◌, ◌/◌, ◌%◌, ◌^◌, ◌≤◌, ◌<◌, ◌≡◌, refl, List, [], ◌∷◌, ◌++◌, set, take, drop, replicate}
 use Rattle.std.proofs.Common.{zero-add, le_of_suc-le-suc, not-suc-le-zero, get_or-take, drop-drop, add-zero, add-suc, suc-add, pow-suc, eq-or-lt_of_le, ◌∙◌, subst, ⊎_elim, length-set, length-append, length-drop, take-append-drop, get_or-set_other, ext_get_or, length-take-le, take_at, drop_at, get_or-drop}
 use native.Mathlib.Omega.{arith}
 use Rattle.std.proofs.Math.Path.{sym, ap}
@@ -10,7 +10,7 @@ use Rattle.std.specs.Simd.{first_chunks}
 use Rattle.std.specs.Int.{w64, to_le_bytes, from_le_bytes}
 use Rattle.std.proofs.lemmas.Nat.{from_le_bytes-to_le_bytes_8}
 use Rattle.std.proofs.lemmas.Slice.{put_mid-paste}
-use Rattle.std.proofs.lemmas.List.{set_split, length-replicate, get_or-replicate}
+use Rattle.std.proofs.lemmas.List.{length-map, get_or-map, set_split, length-replicate, get_or-replicate}
 use Rattle.std.proofs.lemmas.List.Edits.{sets, length-paste, drop-paste, paste_all}
 use Rattle.std.proofs.Math.Seq.{paste, sets-eq}
 use Rattle.std.proofs.Math.Numerals.{towards_numerals}
@@ -215,6 +215,20 @@ word_bytes : (l : List ℕ) (k : ℕ) → word l k ≡ from_le_bytes w64 (take 8
 unfolding word value
 word_bytes l k =
     value_shift 8 l (take 8 (drop (k * 8) l)) (k * 8) 0 (λ i a. rw zero-add (sym (get_or-take 8 (drop (k * 8) l) i 0 a ∙ get_or-drop (k * 8) l i 0))) ∙ omega arith
+
+-- their number
+length_chunks : (n : ℕ) (l : List ℕ) → length (first_chunks 8 n l) ≡ n
+length_chunks zero l = refl
+length_chunks (suc n) l = ap suc (length_chunks n (drop 8 l))
+
+-- all words: the chunks' values
+pub words_chunks : (l : List ℕ) → words l ≡ map (from_le_bytes w64) (first_chunks 8 (length l / 8) l)
+words_chunks l =
+    let chunks = first_chunks 8 (length l / 8) l in
+    let size = length_chunks (length l / 8) l in
+    ext_get_or 0 (words l) (map (from_le_bytes w64) chunks) (length_words l ∙ sym (length-map chunks (from_le_bytes w64) ∙ size))
+    (λ k a. sym (get_or-map (from_le_bytes w64) chunks k [] 0 (omega (arith, length_words l, size))
+    ∙ rw (chunk (length l / 8) l k (omega (arith, length_words l))) (sym (word_bytes l k)) ∙ sym (get_d_words l k a)))
 
 -- a read of a word
 pub get_of : (l : List ℕ) (k v : ℕ) → k * 8 + 8 ≤ length l → v ≡ from_le_bytes w64 (get_or (first_chunks 8 (length l / 8) l) k []) → v ≡ get_or (words l) k 0

@@ -1,10 +1,12 @@
--- The laws of `Zero`: such a list is zeros, and one turn of the loop that asks. Assumes nothing.
-use Rattle.std.specs.Prelude.{ℕ, zero, suc, ◌+◌, ◌≤◌, ◌<◌, ◌≡◌, refl, true, false, ◌&&◌, List, [], ◌∷◌, length, get_or, drop, eqb}
-use Rattle.std.proofs.Common.{add-one, arith, sym, drop_of_length-le, drop-cons, eqb-true, eq-eqb, ne_eqb}
+-- The laws of `Zero`: such a list is zeros, and words that are joined. Assumes nothing.
+use Rattle.std.specs.Prelude.{ℕ, zero, suc, map, ◌≡◌, refl, true, false, ◌&&◌, List, [], ◌∷◌, length, eqb}
+use Rattle.std.proofs.Common.{arith, sym, eqb-true, eq-eqb, ne_eqb}
 use Rattle.std.proofs.Math.Bool.{and_assoc, and-true}
 use Rattle.std.specs.Int.Bits.{bit_or, or_add_and, or_zero_l}
 use Rattle.std.proofs.lemmas.Nat.{and_le_l, and_le_r}
 use Rattle.std.proofs.lemmas.Bool.{eqb-false}
+use Rattle.std.specs.List.{fold}
+use Rattle.std.specs.Int.{w64, from_le_bytes}
 use Rattle.carv_area.specs.Laws.Table.{test}
 use Rattle.carv_area.specs.Moves.{zeros}
 use Rattle.carv_area.specs.Zero.{all_zero}
@@ -34,12 +36,12 @@ or_zero x y =
     (λ f. rw f (sym (ne_eqb y 0 (λ g. eqb-false (bit_or x y) 0 e (rw (eqb-true x 0 f, g) (or_zero_l 0))))))
     (λ f. rw f)))
 
--- a turn of the loop: x joins the words that were passed
-pub zero_more : (l : List ℕ) (i x : ℕ) → i < length l → eqb (bit_or x (get_or l i 0)) 0 && all_zero (drop (i + 1) l) ≡ eqb x 0 && all_zero (drop i l)
-unfolding all_zero
-zero_more l i x h = rw (add-one, drop-cons l i 0 h, or_zero) (and_assoc (eqb x 0) (eqb (get_or l i 0) 0) (all_zero (drop (suc i) l)))
+-- the words of the chunks ws, joined with x
+abbrev pub joined : ℕ → List ℕ → ℕ
+joined x w = bit_or x (from_le_bytes w64 w)
 
--- the loop's end: no word is left
-pub zero_done : (l : List ℕ) (i x : ℕ) → length l ≤ i → eqb x 0 && all_zero (drop i l) ≡ eqb x 0
+-- they are 0 just if x and each word is
+pub zero_fold : (x : ℕ) (ws : List (List ℕ)) → eqb (fold joined x ws) 0 ≡ eqb x 0 && all_zero (map (from_le_bytes w64) ws)
 unfolding all_zero
-zero_done l i x h = rw (drop_of_length-le l h) (and-true (eqb x 0))
+zero_fold x [] = sym (and-true (eqb x 0))
+zero_fold x (w ∷ ws) = rw (zero_fold (joined x w) ws, or_zero) (and_assoc (eqb x 0) (eqb (from_le_bytes w64 w) 0) (all_zero (map (from_le_bytes w64) ws)))

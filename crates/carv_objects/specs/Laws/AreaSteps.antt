@@ -1,9 +1,10 @@
 -- What the functions on one part of the area leave. Assumes nothing.
 use Prim.Native.Nat.{ℕ, zero, suc, ◌+◌, ◌*◌, ◌/◌, ◌≤◌, ◌<◌}
-use Rattle.std.proofs.Common.{arith, add-one, ltb-true, sym, ap, ◌∙◌, subst, get_or-set_same}
+use Rattle.std.proofs.lemmas.List.Edits.{sets}
+use Rattle.std.proofs.Common.{arith, add-one, ltb-true, sym, ap, ◌∙◌, subst, get_or-set_same, refl}
 use Rattle.std.specs.Prelude.{Bool, true, false, ◌&&◌, ◌≡◌, length, get_or, set, Option, Some, None}
 use mathlib.Core.List.{List, [], ◌∷◌, ◌++◌}
-use Rattle.carv_area.specs.Table.{Row, Rising}
+use Rattle.carv_area.specs.Table.{Row, Rising, alter}
 use Rattle.std.specs.Bool.{then_some}
 use Rattle.carv_area.specs.Laws.Table.{rising_weaken, rising_snoc}
 use Rattle.carv_area.specs.Words.{words}
@@ -17,12 +18,15 @@ use Rattle.carv_area.specs.Stored.{Stored, Keyed}
 use Rattle.carv_area.specs.Laws.Stored.{stored_room, stored_remove}
 use Rattle.carv_area.specs.Lookup.{Located, Here, Gone}
 use Rattle.carv_budget.proofs.Laws.Account.{first, second}
+use Rattle.carv_budget.specs.declared.Account.{Account}
+use Rattle.carv_budget.specs.Account.{figures}
+use Rattle.carv_objects_spec.specs.declared.kind.Kind.{Kind}
 use Rattle.carv_objects_spec.specs.declared.Entry.{Entry}
-use Rattle.carv_objects_spec.specs.Kinds.{is_budget_kind}
-use Rattle.carv_objects_spec.specs.Registry.{Registry, or_missing, found, entry, has, is_budget, has_place, has_next}
-use Rattle.carv_objects.specs.Area.{head, table, fields, row_at, rows_in, decode}
-use Rattle.carv_objects.specs.Laws.Rows.{row, no_row, wide, set_row, row_at_is, rows_keyed, rows_located, row_room, row_written, row_appended}
-use Rattle.carv_objects.specs.Laws.Formed.{WellFormed, Leaves, leaves, length_head, table_written}
+use Rattle.carv_objects_spec.specs.Kinds.{is_budget_kind, kind_of}
+use Rattle.carv_objects_spec.specs.Registry.{Registry, or_missing, found, entry, has, is_budget, has_place, has_next, on_account, on_charge, budget, object}
+use Rattle.carv_objects.specs.Area.{head, table, fields, row_at, decode}
+use Rattle.carv_objects.specs.Laws.Rows.{row, no_row, wide, set_account, row_at_is, rows_keyed, rows_located, row_room, row_written}
+use Rattle.carv_objects.specs.Laws.Formed.{WellFormed, Leaves, leaves, leaves_as, length_head, table_written}
 
 abbrev pub with_next : ℕ → Registry → Registry
 with_next n r = record { next = n; rows = r.rows }
@@ -57,8 +61,8 @@ module _ (a : List ℕ) (k : WellFormed a) where
   pub table_keyed : Keyed 11 (table a)
   table_keyed = rows_keyed (table a) (decode a).rows k.rows (decode a).next k.rising
 
-  pub found_is : (x : ℕ) (p : Option ℕ) → p ≡ find_in (keys 11 (words (table a))) x → Located no_row (decode a).rows x p
-  found_is x p e = rows_located (table a) (decode a).rows k.rows x p e
+  pub found_is : (t : List ℕ) → t ≡ table a → (x : ℕ) (p : Option ℕ) → p ≡ find_in (keys 11 (words t)) x → Located no_row (decode a).rows x p
+  found_is t et x p e = rows_located (table a) (decode a).rows k.rows x p (rw et at e)
 
   pub remove_room : (get_or (words (table a)) 0 0 * 11 + 1) * 8 ≤ length (table a)
   remove_room = stored_room fields 11 (table a) (decode a).rows k.rows
@@ -78,6 +82,12 @@ module _ (a : List ℕ) (k : WellFormed a) where
 
     pub payer_is : (x : ℕ) → x ≡ get_or (words (table a)) (i * 11 + 3) 0 → x ≡ (get_or (decode a).rows i no_row).it.payer
     payer_is x e = e ∙ ap (λ (r : Row Entry). r.it.payer) at_is
+
+    pub kind_is : (n : ℕ) → n ≡ get_or (words (table a)) (i * 11 + 2) 0 → (x : Kind) → x ≡ kind_of n → x ≡ (get_or (decode a).rows i no_row).it.kind
+    kind_is n e x q = q ∙ ap kind_of e ∙ ap (λ (r : Row Entry). r.it.kind) at_is
+
+    pub account_is : (x : Account) → x ≡ (row_at (words (table a)) i).it.account → x ≡ (get_or (decode a).rows i no_row).it.account
+    account_is x e = e ∙ ap (λ (r : Row Entry). r.it.account) at_is
 
     pub entry_is : (x : Entry) → x ≡ (row_at (words (table a)) i).it → x ≡ (get_or (decode a).rows i no_row).it
     entry_is x e = e ∙ ap (λ (r : Row Entry). r.it) at_is
@@ -102,11 +112,23 @@ next_set a a' k z n q up = leaves a' _ (record { size = z ∙ k.size; next = q.0
 -- What is left where the table was written, p.
 module _ (a : List ℕ) (k : WellFormed a) (p : List ℕ) where
   module _ (z : length p ≡ 45_064) where
-    pub entry_set : (i x : ℕ) (e : Entry) → i < length (decode a).rows → (get_or (decode a).rows i no_row).id ≡ x → words p ≡ set_row (words (table a)) i (row x e)
-        → Leaves (put_part 8 45_064 a p) (with_rows (set (decode a).rows i (row x e)) (decode a))
-    entry_set i x e h same q =
-        table_written a k p (set (decode a).rows i (row x e)) z (row_written (table a) p (decode a).rows k.rows i (row x e) h q)
-        (rising_set (decode a).rows 1 (decode a).next i no_row (row x e) k.rising (sym same))
+    -- words of the object x, which stands at place i
+    module _ (x i : ℕ) (h : Here no_row (decode a).rows x i) where
+      entry_set : (f : Entry → Entry) (c j : ℕ) (us : List ℕ) → c + length us ≤ 11 → j ≡ i * 11 + 1 + c
+          → fields (row (get_or (decode a).rows i no_row).id (f (get_or (decode a).rows i no_row).it)) ≡ sets (fields (get_or (decode a).rows i no_row)) c us
+          → words p ≡ sets (words (table a)) j us → Leaves (put_part 8 45_064 a p) (with_rows (alter x f (decode a).rows) (decode a))
+      entry_set f c j us b ej q r =
+          let e = f (get_or (decode a).rows i no_row).it in
+          let l = table_written a k p (set (decode a).rows i (row (get_or (decode a).rows i no_row).id e)) z (row_written (table a) p (decode a).rows k.rows i e c j us h.within b ej q r)
+          (rising_set (decode a).rows 1 (decode a).next i no_row (row (get_or (decode a).rows i no_row).id e) k.rising refl) in
+          leaves_as _ _ _ (rw (h.changed f, h.same) refl) l
+
+      pub account_set : (y : Account) → words p ≡ set_account (words (table a)) i y → Leaves (put_part 8 45_064 a p) (budget x (λ _. y) (decode a))
+      unfolding set_account
+      account_set y q = entry_set (on_account (λ _. y)) 4 (i * 11 + 5) (figures y) (omega arith) (omega arith) refl q
+
+      pub charge_set : (n : ℕ) → words p ≡ set (words (table a)) (i * 11 + 4) n → Leaves (put_part 8 45_064 a p) (object x (λ _. n) (decode a))
+      charge_set n q = entry_set (on_charge (λ _. n)) 3 (i * 11 + 4) (n ∷ []) (omega arith) (omega arith) refl q
 
     pub entry_appended : (x : ℕ) (e : Entry) → Rising 1 (decode a).next ((decode a).rows ++ (row x e ∷ [])) → Stored fields 11 p ((decode a).rows ++ (row x e ∷ []))
         → Leaves (put_part 8 45_064 a p) (with_rows ((decode a).rows ++ (row x e ∷ [])) (decode a))
@@ -117,13 +139,6 @@ module _ (a : List ℕ) (k : WellFormed a) (p : List ℕ) where
     entry_removed i h q =
         table_written a k p (remove_at (decode a).rows i) z (stored_remove fields 11 wide (table a) p (decode a).rows k.rows no_row i h q)
         (rising_remove (decode a).rows 1 (decode a).next i k.rising)
-
--- A row behind the others.
-pub appended : (t t' : List ℕ) → Stored fields 11 t (rows_in (words t)) → (r : Row Entry) (n : ℕ) (l : List ℕ) → n ≡ get_or (words t) 0 0
-    → (length (rows_in (words t)) * 11 + 11) * 8 + 8 ≤ length t → l ≡ set_row (words t) n r → words t' ≡ set l 0 (n + 1) → Stored fields 11 t' (rows_in (words t) ++ (r ∷ []))
-appended t t' h r n l en room p q =
-    let c : n ≡ length (rows_in (words t)) = en ∙ h.holds.count in
-    row_appended t t' (rows_in (words t)) h r n l en (omega arith) p q
 
 -- The functions composed of these.
 
@@ -156,10 +171,10 @@ module _ (r : Registry) (x i : ℕ) (h : Here no_row r.rows x i) where
     pub here_other : is_budget_kind e.kind ≡ false → BudgetAt r x None
     here_other k = here_kind false k
 
-    -- and which of the two is asked
-    pub budget_told : (b : Bool) → b ≡ is_budget_kind e.kind → (p : Option ℕ) → p ≡ then_some b i → BudgetAt r x p
-    budget_told true k p t = subst (BudgetAt r x) (sym t) (here_budget (sym k))
-    budget_told false k p t = subst (BudgetAt r x) (sym t) (here_other (sym k))
+  -- and which of the two is asked of the kind there
+  pub budget_told : (k : Kind) → k ≡ (get_or r.rows i no_row).it.kind → (b : Bool) → b ≡ is_budget_kind k → (p : Option ℕ) → p ≡ then_some b i → BudgetAt r x p
+  budget_told k q true e p t = subst (BudgetAt r x) (sym t) (here_budget _ refl (ap is_budget_kind (sym q) ∙ sym e))
+  budget_told k q false e p t = subst (BudgetAt r x) (sym t) (here_other _ refl (ap is_budget_kind (sym q) ∙ sym e))
 
 pub gone_budget : (r : Registry) (x : ℕ) → Gone r.rows x → is_budget r x ≡ false
 gone_budget r x h = rw (ap or_missing h.is)

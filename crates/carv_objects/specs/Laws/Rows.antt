@@ -1,7 +1,6 @@
 -- The rows of the registry's table: what its words say of them, and what a change of one leaves. Assumes nothing.
-use Rattle.std.specs.Prelude.{ℕ, suc, ◌+◌, ◌*◌, ◌≤◌, ◌<◌, ◌≡◌, refl, List, [], ◌∷◌, ◌++◌, length, get_or, set, Option}
+use Rattle.std.specs.Prelude.{ℕ, suc, ◌+◌, ◌*◌, ◌≤◌, ◌<◌, ◌≡◌, refl, List, length, get_or, set, Option}
 use Rattle.std.proofs.Common.{ap, ◌∙◌, arith}
-use Rattle.std.proofs.Math.Numerals.{towards_numerals}
 use Rattle.std.proofs.lemmas.List.Edits.{sets}
 use Rattle.carv_area.specs.Table.{Row, Rising}
 use Rattle.carv_area.specs.Words.{words}
@@ -9,12 +8,13 @@ use Rattle.carv_area.specs.Rows.{Holds}
 use Rattle.carv_area.specs.Laws.Rows.{holds_word}
 use Rattle.carv_area.specs.Keys.{keys, find_in}
 use Rattle.carv_area.specs.Stored.{Stored, Keyed}
-use Rattle.carv_area.specs.Laws.Stored.{rows_are, stored_set, stored_append}
+use Rattle.carv_area.specs.Laws.Stored.{rows_are, stored_some}
 use Rattle.carv_area.specs.Laws.Lookup as lookup
 use Rattle.carv_area.specs.Lookup.{Located}
 use Rattle.carv_budget.specs.declared.Account.{Account}
+use Rattle.carv_budget.specs.Account.{figures}
 use Rattle.carv_objects_spec.specs.declared.Entry.{Entry}
-use Rattle.carv_objects_spec.specs.Kinds.{code, kind_of}
+use Rattle.carv_objects_spec.specs.Kinds.{kind_of}
 use Rattle.carv_objects_spec.specs.Registry.{missing}
 use Rattle.carv_objects_spec.proofs.Laws.Kinds.{kind_of_code}
 use Rattle.carv_objects.specs.Area.{fields, row_at, rows_in}
@@ -29,20 +29,9 @@ no_row = record { id = 0; it = missing }
 abbrev pub row : ℕ → Entry → Row Entry
 row i e = record { id = i; it = e }
 
--- the words l with the account a, or the row r, at place i
+-- the words l with the account a at place i
 unfoldable pub set_account : List ℕ → ℕ → Account → List ℕ
-set_account l i a =
-    sets l (i * 11 + 5)
-    (a.cpu_allowance ∷ a.memory_limit ∷ a.period_start ∷ a.cpu_left ∷ a.cpu_reserved ∷ a.memory_used ∷ a.memory_reserved ∷ [])
-
-unfoldable pub set_row : List ℕ → ℕ → Row Entry → List ℕ
-set_row l i r = sets l (i * 11 + 1) (fields r)
-
--- `write_entry`
-pub row_set : (l l₁ l₂ l₃ l₄ l₅ : List ℕ) (i id : ℕ) (e : Entry) → l₁ ≡ set l (i * 11 + 1) id → l₂ ≡ set l₁ (i * 11 + 2) (code e.kind) → l₃ ≡ set l₂ (i * 11 + 3) e.payer
-    → l₄ ≡ set l₃ (i * 11 + 4) e.charge → l₅ ≡ set_account l₄ i e.account → l₅ ≡ set_row l i (row id e)
-unfolding set_account set_row
-row_set l l₁ l₂ l₃ l₄ l₅ i id e e₁ e₂ e₃ e₄ e₅ = rw (e₅, e₄, e₃, e₂, e₁) (simp towards_numerals)
+set_account l i a = sets l (i * 11 + 5) (figures a)
 
 module _ (l : List ℕ) (rows : List (Row Entry)) (h : Holds fields 11 l rows) where
   pub row_at_is : (i : ℕ) → i < length rows → row_at l i ≡ get_or rows i no_row
@@ -82,11 +71,8 @@ pub row_room : (t : List ℕ) (rows : List (Row Entry)) → Stored fields 11 t r
 row_room t rows h i a = let s = h.holds.size in let z = h.size in omega arith
 
 module _ (t t' : List ℕ) (rows : List (Row Entry)) (h : Stored fields 11 t rows) where
-  pub row_written : (i : ℕ) (r : Row Entry) → i < length rows → words t' ≡ set_row (words t) i r → Stored fields 11 t' (set rows i r)
-  unfolding set_row
-  row_written i r a q = stored_set fields 11 wide t t' rows h i r a q
-
-  pub row_appended : (r : Row Entry) (n : ℕ) (l : List ℕ) → n ≡ get_or (words t) 0 0 → (n * 11 + 11 + 1) * 8 ≤ length t
-      → l ≡ set_row (words t) n r → words t' ≡ set l 0 (n + 1) → Stored fields 11 t' (rows ++ (r ∷ []))
-  unfolding set_row
-  row_appended r n l en a p q = stored_append fields 11 wide t t' rows h r n l en a p q
+  -- words of the object at place i, of its words from number c on, which make its entry e
+  pub row_written : (i : ℕ) (e : Entry) (c k : ℕ) (us : List ℕ) → i < length rows → c + length us ≤ 11 → k ≡ i * 11 + 1 + c
+      → fields (row (get_or rows i no_row).id e) ≡ sets (fields (get_or rows i no_row)) c us → words t' ≡ sets (words t) k us
+      → Stored fields 11 t' (set rows i (row (get_or rows i no_row).id e))
+  row_written i e c k us a b ek q r = stored_some fields 11 wide t t' rows h no_row i _ c k us a b ek q r

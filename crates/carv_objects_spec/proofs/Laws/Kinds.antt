@@ -1,12 +1,12 @@
 -- Kinds and their codes: a listed code is that of one kind, which is read back from it, by document 01's table and by the Rust's `from_raw`. Assumes nothing.
-use Rattle.std.specs.Prelude.{◌≡◌, refl, Bool, true, false, cond, ℕ, ◌+◌, ◌≤◌, ◌<◌, eqb, leb, Some, None}
+use Rattle.std.specs.Prelude.{◌≡◌, refl, Bool, true, false, cond, ◌||◌, [], ◌∷◌, ℕ, ◌+◌, ◌-◌, ◌≤◌, ◌<◌, eqb, leb, get_or, Some, None}
 use Rattle.std.proofs.Common.{sym, ap, ◌∙◌, suc-le-suc, arith, eqb-true, leb-true}
 use Rattle.std.proofs.lemmas.Bool.{false≢true, eqb-false, lt-leb, ne_eqb}
 use Rattle.carv_area.specs.Laws.Table.{test}
 use Rattle.carv_budget.proofs.Laws.Account.{not_first, not_second}
 use Rattle.carv_objects_spec.specs.declared.kind.Kind.{Kind}
 use Rattle.carv_objects_spec.specs.declared.kind.Kind.TheVariants.{Thread, AddressSpace, Frame, Endpoint, Notification, Budget, Reply, Irq, IrqControl}
-use Rattle.carv_objects_spec.specs.Kinds.{code, listed, kind_of, is_budget_kind}
+use Rattle.carv_objects_spec.specs.Kinds.{code, listed, kind_of, bytes_of, creatable, needs_backing, is_budget_kind}
 use Rattle.carv_objects_spec.specs.Rust as rust
 
 -- Which kind is a budget's.
@@ -102,6 +102,25 @@ from_raw_none n h =
 -- a code that isn't listed reads as the last kind
 pub kind_of_unlisted : (n : ℕ) → listed n ≡ false → kind_of n ≡ IrqControl
 kind_of_unlisted n h = rw (away n h 1 refl, away n h 2 refl, away n h 3 refl, away n h 4 refl, away n h 5 refl, away n h 6 refl, away n h 7 refl, away n h 8 refl)
+
+-- What document 01 says of the kinds by number, beside the definitions, which go by kind.
+
+-- "the kind must be 2, 3, 4, 5 or 7": no other code's, listed or not
+pub creatable_code : (n : ℕ) → creatable (kind_of n) ≡ (eqb n 2 || (eqb n 3 || (eqb n 4 || (eqb n 5 || eqb n 7))))
+creatable_code n = test (listed n)
+    (of_listed (λ n. creatable (kind_of n) ≡ (eqb n 2 || (eqb n 3 || (eqb n 4 || (eqb n 5 || eqb n 7))))) refl refl refl refl refl refl refl refl refl n)
+    (λ h. rw (kind_of_unlisted n h, away n h 2 refl, away n h 3 refl, away n h 4 refl, away n h 5 refl, away n h 7 refl))
+
+-- "for 2 and 3, the backing must be there": for no other code, listed or not
+pub needs_backing_code : (n : ℕ) → needs_backing (kind_of n) ≡ (eqb n 2 || eqb n 3)
+needs_backing_code n = test (listed n)
+    (of_listed (λ n. needs_backing (kind_of n) ≡ (eqb n 2 || eqb n 3)) refl refl refl refl refl refl refl refl refl n)
+    (λ h. rw (kind_of_unlisted n h, away n h 2 refl, away n h 3 refl))
+
+-- "1 Thread 33,792; 2 AddressSpace 16,384; 3 Frame 4,096; 4 Endpoint 128; 5 Notification 64; 6 Budget 128; 7 Reply 64; 8 Irq 64; 9 IrqControl 64": the bytes from code 1 on
+pub bytes_of_code : (n : ℕ) → listed n ≡ true → bytes_of (kind_of n) ≡ get_or (33_792 ∷ 16_384 ∷ 4_096 ∷ 128 ∷ 64 ∷ 128 ∷ 64 ∷ 64 ∷ 64 ∷ []) (n - 1) 0
+bytes_of_code = of_listed (λ n. bytes_of (kind_of n) ≡ get_or (33_792 ∷ 16_384 ∷ 4_096 ∷ 128 ∷ 64 ∷ 128 ∷ 64 ∷ 64 ∷ 64 ∷ []) (n - 1) 0)
+    refl refl refl refl refl refl refl refl refl
 
 -- a budget's code is 6, listed or not
 pub budget_code : (n : ℕ) → is_budget_kind (kind_of n) ≡ eqb n 6

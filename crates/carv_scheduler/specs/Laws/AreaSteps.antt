@@ -61,8 +61,9 @@ pub record New (m : List (Row Thread)) (x : ℕ) : Type 0 where
 
 -- What is read of a well-formed area.
 module _ (a : List ℕ) (k : WellFormed a) where
-  pub thread_placed : (x i : ℕ) → i ≡ rank_in (keys 21 (words (threads_part a))) x → Placed (decode a).threads x i
-  thread_placed x i e =
+  pub thread_placed : (t : List ℕ) → t ≡ threads_part a → (x i : ℕ) → i ≡ rank_in (keys 21 (words t)) x → Placed (decode a).threads x i
+  thread_placed t et x i e₀ =
+      let e = rw et at e₀ in
       let r : at (decode a).threads x ≡ None → (i ≤ length (decode a).threads) × ((t : Thread) → put x t (decode a).threads ≡ insert_at (decode a).threads i (row x t)) =
       λ n. lookup.rows_placed thread_fields 21 wide (λ r. refl) no_row (omega arith) (threads_part a) (decode a).threads k.threads x i e n in
       record { within = λ n. (r n).0; is = λ n. (r n).1 }
@@ -80,8 +81,8 @@ module _ (a : List ℕ) (k : WellFormed a) where
   pub threads_keyed : Keyed 21 (threads_part a)
   threads_keyed = lookup.rows_keyed thread_fields 21 wide (λ r. refl) no_row (omega arith) (threads_part a) (decode a).threads k.threads 0 (2 ^ 64) k.rising
 
-  pub thread_found : (x : ℕ) (p : Option ℕ) → p ≡ find_in (keys 21 (words (threads_part a))) x → Located no_row (decode a).threads x p
-  thread_found x p e = lookup.rows_located thread_fields 21 wide (λ r. refl) no_row (omega arith) (threads_part a) (decode a).threads k.threads x p e
+  pub thread_found : (t : List ℕ) → t ≡ threads_part a → (x : ℕ) (p : Option ℕ) → p ≡ find_in (keys 21 (words t)) x → Located no_row (decode a).threads x p
+  thread_found t et x p e = lookup.rows_located thread_fields 21 wide (λ r. refl) no_row (omega arith) (threads_part a) (decode a).threads k.threads x p (rw et at e)
 
   pub threads_room : (slice_index (words (threads_part a)) 0 * 21 + 1) * 8 ≤ length (threads_part a)
   threads_room = stored_room thread_fields 21 (threads_part a) (decode a).threads k.threads

@@ -1,6 +1,7 @@
 -- What is written by place is what document 01 says by id. Assumes nothing.
-use Rattle.std.specs.Prelude.{◌≡◌, ℕ, ◌^◌, ◌<◌, Bool, true, false, List, [], ◌∷◌, ◌++◌, length, get_or, ◌==◌, slice_index_or, slice_set, refl, Option, Some, None, unwrap_or}
-use Rattle.std.proofs.Common.{sym, ap, ◌∙◌, subst, true≢false, ne_eqb}
+use Rattle.std.specs.Prelude.{◌≡◌, ℕ, ◌^◌, ◌<◌, Bool, true, false, List, [], ◌∷◌, ◌++◌, length, get_or, ◌==◌, slice_index_or, slice_set, refl, Option, Some, None}
+use Rattle.std.specs.Option.{IsSome}
+use Rattle.std.proofs.Common.{sym, ap, ◌∙◌, true≢false, ne_eqb}
 use Rattle.carv_area.specs.Table.{Row, at, alter, put}
 use Rattle.carv_area.specs.Lookup.{Here, Located}
 use Rattle.carv_area.specs.Laws.Table.{alter_known}
@@ -15,7 +16,7 @@ use Rattle.carv_scheduler_spec.proofs.Laws.SoundFacts.{Sound}
 use Rattle.carv_scheduler_spec.proofs.Laws.Steps.{other_state}
 use Rattle.carv_scheduler.specs.Laws.Rows.{row, no_row}
 use Rattle.carv_scheduler.specs.Laws.RowWords.{with_state, state_of}
-use Rattle.carv_scheduler.specs.Laws.Places.{found_here, found_gone, here_thread, gone_has}
+use Rattle.carv_scheduler.specs.Laws.Places.{here_thread, gone_has}
 use Rattle.carv_scheduler.specs.Laws.AreaSteps.{with_threads, with_queue, New}
 use Rattle.carv_scheduler.specs.Laws.Room.{queue_room}
 
@@ -57,18 +58,12 @@ started_is b x i space cspace root c t h e u q =
 
 -- `current_place`: the current thread is there
 module _ (b : Board) (o : Sound b) (c : ℕ) (e : c ≡ b.current) (p : Option ℕ) (l : Located no_row b.threads c p) where
-  current_found : (i : ℕ) → p ≡ Some i → Here no_row b.threads b.current i
-  current_found i q = subst (λ (x : ℕ). Here no_row b.threads x i) e (found_here b.threads c p l i q)
-
-  current_missed : p ≡ None → (i : ℕ) → Here no_row b.threads b.current i
-  current_missed q i = absurd (true≢false (sym o.current_here ∙ ap (has b.threads) (sym e) ∙ gone_has b.threads c (found_gone b.threads c p l q)))
-
-  pub current_stands : (i : ℕ) → i ≡ unwrap_or p 0 → Here no_row b.threads b.current i
-  current_stands i h = go p refl h
+  pub current_stands : IsSome p
+  current_stands = there p l
     where
-      go : (q : Option ℕ) → p ≡ q → i ≡ unwrap_or q 0 → Here no_row b.threads b.current i
-      go (Some j) e k = subst (Here no_row b.threads b.current) (sym k) (current_found j e)
-      go None e k = current_missed e i
+      there : (q : Option ℕ) → Located no_row b.threads c q → IsSome q
+      there (Some i) k = refl
+      there None k = absurd (true≢false (sym o.current_here ∙ ap (has b.threads) (sym e) ∙ gone_has b.threads c k))
 
 -- `is_blocked_on`: the state that was read, y, and the wait, w
 pub blocked_at : (m : List (Row Thread)) (x i : ℕ) → Here no_row m x i → (w v : Wait) → w ≡ v → (y : State) → y ≡ (get_or m i no_row).it.state

@@ -1,6 +1,6 @@
 -- The exit log: what its functions read and leave. Assumes nothing.
-use Rattle.std.specs.Prelude.{◌≡◌, ℕ, suc, ◌+◌, ◌*◌, ◌<◌, ◌≤◌, true, cond, List, [], ◌∷◌, ◌++◌, length, drop, set, ◌==◌, ◌≢◌, slice_index, slice_index_or, slice_set, refl, Option, Some, None, option_map, find, Ok}
-use Rattle.std.proofs.Common.{sym, ap, ◌∙◌, subst, add-one, arith, length-drop, drop_of_length-le, drop-cons, eq-eqb, ne_eqb}
+use Rattle.std.specs.Prelude.{◌≡◌, ℕ, ◌+◌, ◌*◌, ◌<◌, ◌≤◌, true, cond, List, [], ◌∷◌, ◌++◌, length, drop, ◌==◌, ◌≢◌, slice_index, slice_index_or, refl, Option, option_map, find, Ok}
+use Rattle.std.proofs.Common.{sym, ap, ◌∙◌, subst, arith, length-drop, eq-eqb, ne_eqb}
 use Rattle.std.proofs.lemmas.Bool.{eqb-false}
 use Rattle.carv_area.specs.Laws.Table.{test}
 use Rattle.carv_area.specs.Words.{words}
@@ -9,38 +9,28 @@ use Rattle.carv_area.specs.Laws.Parts.{length_part}
 use Rattle.carv_area.specs.Moves.{cut_row}
 use Rattle.carv_area.specs.Rows.{remove_at}
 use Rattle.carv_area.specs.Stored.{Stored}
-use Rattle.carv_area.specs.Laws.Stored.{stored_room, stored_remove, stored_append}
+use Rattle.carv_area.specs.Laws.Stored.{stored_room, stored_remove}
 use Rattle.carv_scheduler_spec.specs.declared.Cause.{Cause}
 use Rattle.carv_scheduler_spec.specs.declared.Exit.{Exit}
 use Rattle.carv_scheduler.specs.Answer.{cause_of}
-use Rattle.carv_scheduler_spec.specs.Codes.{cause_word}
 use Rattle.carv_scheduler_spec.specs.Scheduler.{Board, logged, exit_in, exit_of}
-use Rattle.carv_scheduler.specs.Area.{exits_part, exit_fields, exit_at, exits_in, decode, sound_area, Serves}
+use Rattle.carv_scheduler.specs.Area.{exits_part, exit_fields, exit_at, decode, sound_area, Serves}
 use Rattle.carv_scheduler.specs.Laws.Rows.{no_exit, wide_exit, exit_at_is}
 use Rattle.carv_scheduler.specs.Laws.Formed.{WellFormed, Leaves, leaves_as, unchanged, exits_written}
 use Rattle.carv_scheduler.specs.Laws.Calls.{read_serves}
 
-abbrev pub exit : (thread : ℕ) → Cause → Exit
+abbrev pub exit : (thread : ℕ) → Cause → Exit Cause
 exit thread cause = record { thread = thread; cause = cause }
 
-abbrev pub with_exits : List Exit → Board → Board
+abbrev pub with_exits : List (Exit Cause) → Board → Board
 with_exits l b = record { registry = b.registry; threads = b.threads; queue = b.queue; current = b.current; switches = b.switches; exits = l }
 
 -- room for one more: of 32 exits the oldest goes
-abbrev pub spared : List Exit → List Exit
+abbrev pub spared : List (Exit Cause) → List (Exit Cause)
 spared l = cond (length l == 32) (drop 1 l) l
 
 pub length_exits : (a : List ℕ) → length a ≡ 68_144 → length (part 67_624 520 a) ≡ 520
 length_exits a z = length_part 67_624 520 a (omega arith)
-
--- `append_exit`
-pub exit_appended : (t t' : List ℕ) → Stored exit_fields 2 t (exits_in (words t)) → (e : Exit) (n v : ℕ) (l₁ l₂ : List ℕ) → v ≡ cause_word e.cause → n ≡ slice_index (words t) 0
-    → (length (exits_in (words t)) * 2 + 2) * 8 + 8 ≤ length t → l₁ ≡ slice_set (words t) (n * 2 + 1) e.thread → l₂ ≡ slice_set l₁ (n * 2 + 2) v → words t' ≡ slice_set l₂ 0 (n + 1)
-    → Stored exit_fields 2 t' (exits_in (words t) ++ (e ∷ []))
-exit_appended t t' h e n v l₁ l₂ ev en room p₁ p₂ q =
-    let c : n ≡ length (exits_in (words t)) = en ∙ h.holds.count in
-    let o : n * 2 + 2 ≡ suc (n * 2 + 1) = omega arith in
-    stored_append exit_fields 2 wide_exit t t' (exits_in (words t)) h e n l₂ en (omega arith) (p₂ ∙ ap (λ (m : ℕ). set l₁ (n * 2 + 2) m) ev ∙ ap (λ (l : List ℕ). set l (n * 2 + 2) (cause_word e.cause)) p₁ ∙ ap (λ (k : ℕ). set (slice_set (words t) (n * 2 + 1) e.thread) k (cause_word e.cause)) o) q
 
 -- What is read of a well-formed area.
 module _ (a : List ℕ) (k : WellFormed a) where
@@ -61,11 +51,11 @@ module _ (a : List ℕ) (k : WellFormed a) where
     pub exit_room : (i * 2 + 2) * 8 + 8 ≤ length (exits_part a)
     exit_room = let s = k.exits.holds.size in let z = k.exits.size in omega arith
 
-    pub exit_is : (x : Exit) → x ≡ exit_at (words (exits_part a)) i → x ≡ slice_index_or (decode a).exits i no_exit
+    pub exit_is : (x : Exit Cause) → x ≡ exit_at (words (exits_part a)) i → x ≡ slice_index_or (decode a).exits i no_exit
     exit_is x e = e ∙ exit_at_is (words (exits_part a)) (decode a).exits k.exits.holds i h
 
 -- the oldest is the first
-oldest : (l : List Exit) → remove_at l 0 ≡ drop 1 l
+oldest : (l : List (Exit Cause)) → remove_at l 0 ≡ drop 1 l
 unfolding remove_at
 oldest l = refl
 
@@ -77,7 +67,7 @@ module _ (a : List ℕ) (k : WellFormed a) (p : List ℕ) (z : length p ≡ 520)
       (subst (Stored exit_fields 2 p) (oldest (decode a).exits) (stored_remove exit_fields 2 wide_exit (exits_part a) p (decode a).exits k.exits no_exit 0 h q))
 
 -- `log_exit`: room, then one more.
-module _ (l : List Exit) where
+module _ (l : List (Exit Cause)) where
   pub spared_few : length l ≤ 32 → length (spared l) < 32
   spared_few h = test (length l == 32)
       (λ e. rw (e, length-drop 1 l) (omega arith))
@@ -100,31 +90,16 @@ module _ (a a₁ : List ℕ) (k : WellFormed a) (h : Leaves a₁ (with_exits (sp
   pub logged_room : length (decode a₁).exits < 32
   logged_room = subst (λ (b : Board). length b.exits < 32) (sym h.is) (spared_few (decode a).exits (exits_few a k))
 
-  pub logged_left : (e : Exit) (a₂ : List ℕ) → Leaves a₂ (with_exits ((decode a₁).exits ++ (e ∷ [])) (decode a₁)) → Leaves a₂ (with_exits (logged e (decode a).exits) (decode a))
+  pub logged_left : (e : Exit Cause) (a₂ : List ℕ) → Leaves a₂ (with_exits ((decode a₁).exits ++ (e ∷ [])) (decode a₁)) → Leaves a₂ (with_exits (logged e (decode a).exits) (decode a))
   logged_left e a₂ m = leaves_as a₂ _ _ (ap (λ (b : Board). with_exits (b.exits ++ (e ∷ [])) b) h.is) m
 
--- the walk of `exit_of`: what is found from place i on
-module _ (l : List Exit) (x i : ℕ) (w : Option Cause) (k : exit_in x (drop i l) ≡ w) where
-  pub exit_ends : length l ≤ i → None ≡ w
-  exit_ends h = ap (exit_in x) (sym (drop_of_length-le l h)) ∙ k
-
-  module _ (h : i < length l) (e : Exit) (q : e ≡ slice_index_or l i no_exit) where
-    exit_turn : cond (e.thread == x) (Some e.cause) (exit_in x (drop (suc i) l)) ≡ w
-    exit_turn = rw q (sym (ap (exit_in x) (drop-cons l i no_exit h)) ∙ k)
-
-    pub exit_found : e.thread ≡ x → Some e.cause ≡ w
-    exit_found t = rw (eq-eqb e.thread x t) at exit_turn
-
-    pub exit_on : (e.thread ≢ x) → exit_in x (drop (i + 1) l) ≡ w
-    exit_on t = rw add-one (rw (ne_eqb e.thread x t) at exit_turn)
-
--- its answer
+-- the answer of `exit_of`
 module _ (a : List ℕ) (s : sound_area a ≡ true) (x : ℕ) where
   pub cause_served : (c : Option Cause) → c ≡ exit_in x (decode a).exits → Serves (exit_of x) cause_of a (Ok c) a
   cause_served c e = read_serves (exit_of x) a s (exit_of x (decode a)) refl refl (Ok c) refl (ap cause_of e)
 
 -- a search for the first exit of the thread
-pub exit_sought : (x : ℕ) (l : List Exit) → option_map (λ (e : Exit). e.cause) (find (λ (e : Exit). e.thread == x) l) ≡ exit_in x l
+pub exit_sought : {C : Type 0} (x : ℕ) (l : List (Exit C)) → option_map (λ (e : Exit C). e.cause) (find (λ (e : Exit C). e.thread == x) l) ≡ exit_in x l
 exit_sought x [] = refl
 exit_sought x (e ∷ l) = test (e.thread == x)
     (λ p. rw p refl)

@@ -14,6 +14,7 @@ use Rattle.carv_objects_spec.specs.Registry.{Registry}
 use Rattle.carv_objects.specs.Area as objects
 use Rattle.carv_scheduler_spec.specs.declared.Thread.{Thread}
 use Rattle.carv_scheduler_spec.specs.declared.Exit.{Exit}
+use Rattle.carv_scheduler_spec.specs.declared.Cause.{Cause}
 use Rattle.carv_scheduler_spec.specs.Scheduler.{Board}
 use Rattle.carv_scheduler.specs.Area.{registry_part, head, threads_part, queue_part, exits_part, thread_fields, exit_fields, decode}
 use Rattle.carv_scheduler.specs.Laws.Rows.{threads_in_are, exits_in_are}
@@ -132,7 +133,7 @@ module _ (a : List ℕ) (k : WellFormed a) (p : List ℕ) where
         exits = rw (apart 66_600 1_024 67_624 520 a p fits z (after (omega arith))) k.exits;
       })
 
-  pub exits_written : (l : List Exit) → length p ≡ 520 → Stored exit_fields 2 p l → Leaves (put_part 67_624 520 a p) (record { registry = (decode a).registry; threads = (decode a).threads; queue = (decode a).queue; current = (decode a).current; switches = (decode a).switches; exits = l })
+  pub exits_written : (l : List (Exit Cause)) → length p ≡ 520 → Stored exit_fields 2 p l → Leaves (put_part 67_624 520 a p) (record { registry = (decode a).registry; threads = (decode a).threads; queue = (decode a).queue; current = (decode a).current; switches = (decode a).switches; exits = l })
   unfolding registry_part head threads_part queue_part exits_part
   exits_written l z h =
       let s = k.size in

@@ -1,10 +1,11 @@
 -- The end of a thread: what leaving the queue, the table and the board's running threads leave, and what `kill` replies question by question. Assumes nothing.
-use Rattle.std.specs.Prelude.{◌≡◌, ℕ, zero, ◌+◌, ◌<◌, Bool, true, false, cond, List, [], ◌∷◌, length, get_or, ◌==◌, ◌≢◌, slice_index, slice_index_or, slice_set, refl, Option, Some, None, Result, Ok, Err}
-use Rattle.std.proofs.Common.{sym, ap, ◌∙◌, subst, ⊎_elim, arith, eqb-true, eq-eqb, ne_eqb}
+use Rattle.std.specs.Prelude.{◌≡◌, ℕ, zero, ◌<◌, ◌≤◌, Bool, true, false, cond, List, [], ◌∷◌, length, get_or, ◌==◌, ◌≢◌, slice_index, slice_index_or, slice_set, refl, Option, Some, None, Result, Ok, Err}
+use Rattle.std.proofs.Common.{sym, ap, ◌∙◌, subst, arith, eqb-true, eq-eqb, ne_eqb}
 use Rattle.carv_area.specs.Table.{Row, alter, erase}
-use Rattle.carv_area.specs.Laws.Lists.{lt_or_ge}
+use Rattle.std.specs.Option.{MatchOption}
 use Rattle.carv_area.specs.Rows.{remove_at}
 use Rattle.carv_area.specs.Keys.{find_in, after}
+use Rattle.carv_area.specs.Laws.Keys.{find_none, find_at}
 use Rattle.carv_area.specs.Lookup.{Here}
 use Rattle.carv_scheduler_spec.specs.declared.Wait.{Wait}
 use Rattle.carv_scheduler_spec.specs.declared.State.{State}
@@ -48,10 +49,12 @@ unfolding find_in
 queued_at [] x = refl
 queued_at (k ∷ q) x = queued_step k q x (k == x) refl (find_in q x) (queued_at q x)
 
--- the walk of `queue_find`: no place before i has the id, nor place i
-pub none_further : (q : List ℕ) (x i : ℕ) → ((j : ℕ) → j < i → slice_index q j ≢ x) → (y : ℕ) → y ≡ slice_index q i → (y ≢ x) → (j : ℕ) → j < i + 1 → slice_index q j ≢ x
-none_further q x i h y e n j l z =
-    ⊎_elim (λ b. h j b z) (λ b. let s : j ≡ i = omega arith in n (e ∙ ap (λ (k : ℕ). slice_index q k) (sym s) ∙ z)) (lt_or_ge j i)
+-- the first place below n that has the id, as a search of these places finds it
+pub found_first : (q : List ℕ) (x n : ℕ) → n ≡ length q → (r : Option ℕ)
+    → MatchOption r ((j : ℕ) → 0 ≤ j → j < n → slice_index q j ≡ x → ⊥) (λ i. (0 ≤ i) × (i < n) × (slice_index q i ≡ x) × ((j : ℕ) → 0 ≤ j → j < i → slice_index q j ≡ x → ⊥))
+    → r ≡ find_in q x
+found_first q x n e None h = sym (find_none q x (λ j b. h j (omega arith) (omega (arith, e))))
+found_first q x n e (Some i) h = sym (find_at q x i (omega (arith, e, h.1)) h.2 (λ j b. h.3 j (omega arith) b))
 
 module _ (q : List ℕ) (x : ℕ) (p : Option ℕ) (e : p ≡ find_in q x) where
   pub queue_here : (i : ℕ) → p ≡ Some i → (i < length q) × (distinct q ≡ true → without x q ≡ remove_at q i)

@@ -1,6 +1,7 @@
 -- Listed codes: the words of a table are those of the records that they say, and the words of records are listed. Assumes nothing.
 use Rattle.std.specs.Prelude.{◌≡◌, ℕ, zero, suc, ◌+◌, ◌*◌, ◌<◌, Bool, true, ◌==◌, List, length, slice_index, slice_index_or, get_or, refl}
 use Rattle.std.proofs.Common.{ap, ◌∙◌, add_assoc, arith}
+use Rattle.std.specs.List.{list_all, range_with_len}
 use Rattle.carv_area.specs.Lists.{tab}
 use Rattle.carv_area.specs.Rows.{Holds}
 use Rattle.carv_area.specs.Laws.Rows.{holds_word}
@@ -8,6 +9,7 @@ use Rattle.carv_area.specs.Table.{Row}
 use Rattle.carv_budget.proofs.Laws.Account.{first, second}
 use Rattle.carv_scheduler_spec.specs.declared.Thread.{Thread}
 use Rattle.carv_scheduler_spec.specs.declared.Exit.{Exit}
+use Rattle.carv_scheduler_spec.specs.declared.Cause.{Cause}
 use Rattle.carv_scheduler_spec.specs.Codes.{cause_word, state_listed, budget_listed, spaces_listed, exit_listed}
 use Rattle.carv_scheduler_spec.proofs.Laws.Codes.{SameState, SameBudget, SameSpaces, state_same, budget_same, spaces_same, state_is_listed, budget_is_listed, spaces_are_listed, cause_is_listed}
 use Rattle.carv_scheduler_spec.specs.Sound.{each}
@@ -28,6 +30,13 @@ module _ {A : Type 0} where
   unfolding tab
   each_in p zero f h = refl
   each_in p (suc n) f h = rw (h zero (omega arith), each_in p n (λ i. f (suc i)) (λ k l. h (suc k) (omega arith)))
+
+-- and those that `all` over a range asks
+pub each_range : (p : ℕ → Bool) (f : ℕ → ℕ) (a n : ℕ) → ((k : ℕ) → f k ≡ a + k) → list_all p (range_with_len a n) ≡ each p (tab n f)
+unfolding tab
+each_range p f a zero h = refl
+each_range p f a (suc n) h = let e : f zero ≡ a = omega (arith, h zero) in
+    rw (e, each_range p (λ i. f (suc i)) (a + 1) n (λ k. omega (arith, h (suc k)))) refl
 
 -- what is asked of the state of the thread at place i, by its word
 module _ (l : List ℕ) (i : ℕ) where
@@ -81,7 +90,7 @@ module _ (l : List ℕ) (rows : List (Row Thread)) (h : Holds thread_fields 21 l
           (λ u. spaces_listed (w 6 (omega arith) u) (v 7 1 7 refl (omega arith) u) (v 7 2 8 refl (omega arith) u) (v 7 3 9 refl (omega arith) u)) ∙ spaces_are_listed t.spaces in
           rw (s, p, q)
 
-module _ (l : List ℕ) (log : List Exit) (h : Holds exit_fields 2 l log) where
+module _ (l : List ℕ) (log : List (Exit Cause)) (h : Holds exit_fields 2 l log) where
   pub exits_are_listed : exits_listed l ≡ true
   unfolding exits_listed
   exits_are_listed = each_in (cause_listed_at l) (slice_index l 0) (λ i. i) one

@@ -1,6 +1,6 @@
 -- Planning on the area: putting back, switching, and the whole plan, from what the calls leave. Assumes nothing.
 use Rattle.std.specs.Prelude.{◌≡◌, ℕ, ◌+◌, ◌*◌, ◌%◌, ◌^◌, ◌<◌, ◌≤◌, Bool, true, false, cond, not, List, [], ◌∷◌, ◌++◌, length, get_or, ◌==◌, ◌≢◌, slice_index_or, slice_set, refl, Option, Some, Ok, Err}
-use Rattle.std.proofs.Common.{arith, sym, ap, ◌∙◌, subst, true≢false, eq-eqb, ne_eqb, le-leb}
+use Rattle.std.proofs.Common.{arith, sym, ap, ◌∙◌, subst, eq-eqb, ne_eqb, le-leb}
 use Rattle.std.proofs.lemmas.Bool.{lt-leb, not-true, not-false}
 use Rattle.carv_area.specs.Table.{Row, alter, erase}
 use Rattle.carv_area.specs.Rows.{remove_at}
@@ -25,15 +25,15 @@ use Rattle.carv_scheduler_spec.proofs.Laws.Switching.{put_back_current}
 use Rattle.carv_scheduler_spec.proofs.Laws.Reading.{and_false, thread_alter}
 use Rattle.carv_scheduler.specs.Laws.Room.{queue_room}
 use Rattle.carv_scheduler.specs.Laws.RowWords.{with_state, state_of}
-use Rattle.carv_scheduler.specs.Laws.Places.{here_has, here_thread, gone_thread}
-use Rattle.carv_scheduler.specs.Laws.Planning.{Backs, Chooses, Told, Runs, Leaving, Switches, choice, choice_of, taken}
+use Rattle.carv_scheduler.specs.Laws.Places.{here_has, here_thread}
+use Rattle.carv_scheduler.specs.Laws.Planning.{Stands, Backs, Chooses, Told, Runs, Leaving, Switches, choice, choice_of, taken}
 
-ran : (y : State) → running y ≡ true → y ≡ Running
-ran Inactive e = absurd (true≢false (sym e))
-ran Ready e = absurd (true≢false (sym e))
-ran Running e = refl
-ran (Blocked w) e = absurd (true≢false (sym e))
-ran Dead e = absurd (true≢false (sym e))
+not_running : (y : State) → (y ≡ Running → ⊥) → running y ≡ false
+not_running Inactive n = refl
+not_running Ready n = refl
+not_running Running n = absurd (n refl)
+not_running (Blocked w) n = refl
+not_running Dead n = refl
 
 -- Putting back: a board whose current thread, x, stays, and one whose current thread goes to the queue.
 
@@ -55,23 +55,18 @@ module _ (a : List ℕ) (s : sound_area a ≡ true) (x : ℕ) (ex : x ≡ (decod
   left_so : put_back (decode a) ≡ decode a → (r : Bool) → r ≡ is dead (thread (decode a).threads x) → Backs x a r a
   left_so e r d = (d ∙ sym (ap (λ (b : Board). is dead (thread b.threads x)) e), leaves_as a _ _ (sym e) (unchanged a (area_formed a s)))
 
-  pub backs_gone : Gone (decode a).threads x → Backs x a false a
-  backs_gone g =
-      let t = gone_thread (decode a).threads x g in
-      left_so (back_stays (decode a) x ex (ap (is running) t)) false (sym (ap (is dead) t))
-
   -- it stands at place i, and is in state y
-  module _ (i : ℕ) (h : Here no_row (decode a).threads x i) (y : State) (ey : y ≡ (get_or (decode a).threads i no_row).it.state) where
+  module _ (i : ℕ) (h₀ : Here no_row (decode a).threads (decode a).current i) (y : State) (ey : y ≡ (get_or (decode a).threads i no_row).it.state) where
+    h : Here no_row (decode a).threads x i
+    h = subst (λ (z : ℕ). Here no_row (decode a).threads z i) (sym ex) h₀
+
     here : (s : State → Bool) → s y ≡ is s (thread (decode a).threads x)
     here s = ap s ey ∙ sym (ap (is s) (here_thread (decode a).threads x i h))
 
-    pub backs_not : running y ≡ false → (r : Bool) → r ≡ dead y → Backs x a r a
-    backs_not n r e = left_so (back_stays (decode a) x ex (sym (here running) ∙ n)) r (e ∙ here dead)
+    pub backs_not : (y ≡ Running → ⊥) → (r : Bool) → r ≡ dead y → Backs x a r a
+    backs_not n r e = left_so (back_stays (decode a) x ex (sym (here running) ∙ not_running y n)) r (e ∙ here dead)
 
-    module _ (run : running y ≡ true) where
-      is_running : y ≡ Running
-      is_running = ran y run
-
+    module _ (is_running : y ≡ Running) where
       pub backs_idle : x ≡ idle → Backs x a false a
       backs_idle e = left_so (back_idle (decode a) x ex e) false (sym (ap dead is_running) ∙ here dead)
 
@@ -84,7 +79,7 @@ module _ (a : List ℕ) (s : sound_area a ≡ true) (x : ℕ) (ex : x ≡ (decod
 
         pub backs_goes : (a₂ : List ℕ) → Leaves a₂ (with_queue ((decode a₁).queue ++ (x ∷ [])) (decode a₁)) → Backs x a false a₂
         backs_goes a₂ k =
-            let e = back_goes (decode a) x ex n (sym (here running) ∙ run) in
+            let e = back_goes (decode a) x ex n (sym (here running) ∙ ap running is_running) in
             let m = (decode a).threads in
             let t : thread (alter x (become Ready) m) x ≡ become Ready (thread m x) =
             thread_alter m x (become Ready) (here_has m x i h) x ∙ ap (λ (z : Bool). cond z (become Ready (thread m x)) (thread m x)) (eq-eqb x x refl) in (
@@ -115,11 +110,6 @@ module _ (a : List ℕ) (k : WellFormed a) (x : ℕ) (g : Bool) where
 
     pub leaves_gone : Gone (decode a).threads x → Leaving x g a a
     leaves_gone h = goes (decode a).threads (rw (not-false g e) h.erased) a (unchanged a k)
-
--- A switch is counted.
-pub counted : (a : List ℕ) (x n w : ℕ) → n ≡ (decode a).switches → w ≡ (n + 1) % 2 ^ 64 → (a' : List ℕ) → Leaves a' (with_head x w (decode a))
-    → Leaves a' (with_head x (((decode a).switches + 1) % 2 ^ 64) (decode a))
-counted a x n w en ew a' l = leaves_as a' _ _ (ap (λ (z : ℕ). with_head x z (decode a)) (ew ∙ ap (λ (z : ℕ). (z + 1) % 2 ^ 64) en)) l
 
 -- The switch of the board b, whose current thread is old, to x.
 module _ (b : Board) (x old : ℕ) (eo : old ≡ b.current) (b₁ : Board) (e₁ : b₁ ≡ with_threads (alter x (become Running) b.threads) b) where
@@ -180,7 +170,7 @@ module _ (a : List ℕ) (s : sound_area a ≡ true) (n : ℕ) where
     pub planned_dead : g ≡ is dead (thread (decode a₂).threads old)
     planned_dead = k₁.0 ∙ sym (ap (λ (m : List (Row Thread)). is dead (thread m old)) (threads₂ ∙ ap (λ (b : Board). b.threads) board₁))
 
-    pub planned_here : Located no_row (decode a₂).threads c.id c.at
+    pub planned_here : Stands c a₂
     planned_here = subst (λ (m : List (Row Thread)). Located no_row m c.id c.at) (sym threads₂) k₂.here
 
     pub planned : n ≤ 18_446_744_073_709 → time ≡ n * tick_ns → (r : Option Switch) (a₃ : List ℕ) → Switches c.id a₂ r a₃ → Serves (plan n) switch_of a (Ok r) a₃

@@ -1,5 +1,5 @@
 -- Planning on the area: what each function of src/planning.rt leaves, and how it follows from what its calls leave. Assumes nothing.
-use Rattle.std.specs.Prelude.{◌≡◌, ℕ, ◌+◌, ◌<◌, ◌≤◌, Bool, true, false, cond, List, length, nat_lt, slice_index, slice_index_or, refl, Option, Some, None}
+use Rattle.std.specs.Prelude.{◌≡◌, ℕ, ◌+◌, ◌<◌, ◌≤◌, ◌%◌, ◌^◌, Bool, true, false, cond, List, length, slice_index, slice_index_or, refl, Option, Some, None}
 use Rattle.std.proofs.Common.{arith, sym, ap, ◌∙◌, subst}
 use Rattle.std.proofs.lemmas.Option.{some_pair_parts}
 use Rattle.carv_area.specs.Table.{Row, alter, erase}
@@ -24,10 +24,14 @@ use Rattle.carv_scheduler.specs.Laws.Walk.{Walked, walk, tested, choice_at, walk
 
 -- the place behind one that was found: a guess, which decides nothing
 abbrev pub guess_behind : Option ℕ → ℕ
-guess_behind (Some i) = cond (nat_lt i 128) (i + 1) 0
+guess_behind (Some i) = (i + 1) % 2 ^ 64
 guess_behind None = 0
 
 -- The contracts.
+
+-- the place of a thread that was chosen is its place in the area a
+abbrev pub Stands : Chosen → List ℕ → Type 0
+Stands c a = Located no_row (decode a).threads c.id c.at
 
 -- the budget i is renewed, if it is live
 pub record Renewing (time i : ℕ) (a : List ℕ) (r : Bool) (a' : List ℕ) : Type 0 where
@@ -71,7 +75,7 @@ taken c b = record { registry = c.registry; threads = b.threads; queue = c.rest;
 
 pub record Chooses (time : ℕ) (a : List ℕ) (r : Chosen) (a' : List ℕ) : Type 0 where
   pub next : r.id ≡ (choice_of time (decode a)).next
-  pub here : Located no_row (decode a).threads r.id r.at
+  pub here : Stands r a
   pub area : Leaves a' (taken (choice_of time (decode a)) (decode a))
 
 -- the current thread x is put back, and r says whether it is dead

@@ -1,5 +1,5 @@
 -- The rows of the thread table: what a change of one leaves. Assumes nothing.
-use Rattle.std.specs.Prelude.{◌≡◌, ℕ, suc, ◌+◌, ◌*◌, ◌<◌, List, [], ◌∷◌, length, get_or, slice_index, slice_index_or, slice_set, refl, Option, Some, None, unwrap_or}
+use Rattle.std.specs.Prelude.{◌≡◌, ℕ, suc, ◌+◌, ◌*◌, ◌<◌, List, [], ◌∷◌, length, get_or, slice_index, slice_index_or, slice_set, refl, None}
 use Rattle.std.proofs.Common.{arith, add_assoc, ap, ◌∙◌}
 use Rattle.std.proofs.Math.Numerals.{towards_numerals}
 use Rattle.std.proofs.lemmas.List.Edits.{sets}
@@ -9,14 +9,13 @@ use Rattle.carv_area.specs.Laws.Rows.{holds_word}
 use Rattle.carv_area.specs.Laws.Stored.{rows_are}
 use Rattle.carv_scheduler_spec.specs.declared.State.{State}
 use Rattle.carv_scheduler_spec.specs.declared.State.TheVariants.{Inactive, Ready}
-use Rattle.carv_scheduler_spec.specs.declared.Spaces.{Spaces}
-use Rattle.carv_scheduler_spec.specs.declared.Context.{Context}
 use Rattle.carv_scheduler_spec.specs.declared.Results.{Results}
 use Rattle.carv_scheduler_spec.specs.declared.Thread.{Thread}
 use Rattle.carv_scheduler_spec.specs.declared.Cause.TheVariants.{Destroyed}
 use Rattle.carv_scheduler_spec.specs.declared.Exit.{Exit}
+use Rattle.carv_scheduler_spec.specs.declared.Cause.{Cause}
 use Rattle.carv_scheduler_spec.specs.Scheduler.{fresh, cause_of}
-use Rattle.carv_scheduler_spec.specs.Codes.{is_word, state_word, kind_word, number_word, id_word, space_word, cspace_word, root_word, state_from, budget_from, spaces_from}
+use Rattle.carv_scheduler_spec.specs.Codes.{state_word, kind_word, number_word, thread_words, state_from, budget_from, spaces_from}
 use Rattle.carv_scheduler_spec.proofs.Laws.Codes.{state_back, budget_back, spaces_back, cause_back}
 use Rattle.carv_scheduler.specs.Area.{thread_fields, thread_at, threads_in, exit_fields, exit_at, exits_in, state_at, budget_at, spaces_at}
 
@@ -31,23 +30,11 @@ wide r = refl
 unfoldable pub set_state : List ℕ → ℕ → State → List ℕ
 set_state l i x = sets l (i * 21 + 2) (state_word x ∷ kind_word x ∷ number_word x ∷ [])
 
-unfoldable pub set_start : List ℕ → (i id : ℕ) → State → (budget : Option ℕ) → List ℕ
-set_start l i id x p = sets l (i * 21 + 1) (id ∷ state_word x ∷ kind_word x ∷ number_word x ∷ is_word p ∷ id_word p ∷ [])
-
-unfoldable pub set_spaces : List ℕ → ℕ → Option Spaces → List ℕ
-set_spaces l i s = sets l (i * 21 + 7) (is_word s ∷ space_word s ∷ cspace_word s ∷ root_word s ∷ [])
-
-unfoldable pub set_context : List ℕ → ℕ → Context → List ℕ
-set_context l i c = sets l (i * 21 + 11) (c.rip ∷ c.rsp ∷ c.rflags ∷ c.rdi ∷ c.rsi ∷ c.cs ∷ c.ss ∷ [])
-
 unfoldable pub set_results : List ℕ → ℕ → Results → List ℕ
 set_results l i r = sets l (i * 21 + 18) (r.first ∷ r.second ∷ r.third ∷ [])
 
 unfoldable pub set_ticks : List ℕ → (i n : ℕ) → List ℕ
 set_ticks l i n = slice_set l (i * 21 + 21) n
-
-unfoldable pub set_end : List ℕ → ℕ → Results → ℕ → List ℕ
-set_end l i r n = sets l (i * 21 + 18) (r.first ∷ r.second ∷ r.third ∷ n ∷ [])
 
 unfoldable pub set_thread : List ℕ → ℕ → Row Thread → List ℕ
 set_thread l i r = sets l (i * 21 + 1) (thread_fields r)
@@ -56,46 +43,19 @@ set_thread l i r = sets l (i * 21 + 1) (thread_fields r)
 abbrev pub set_woken : List ℕ → ℕ → Results → List ℕ
 set_woken l i r = set_results (set_state l i Ready) i r
 
--- `write_start` and `write_end`
-
-pub start_set : (l l₁ l₂ l₃ l₄ : List ℕ) (i id : ℕ) (x : State) (p : Option ℕ) (f n : ℕ) → f ≡ is_word p → n ≡ unwrap_or p 0
-    → l₁ ≡ slice_set l (i * 21 + 1) id → l₂ ≡ set_state l₁ i x → l₃ ≡ slice_set l₂ (i * 21 + 5) f → l₄ ≡ slice_set l₃ (i * 21 + 6) n → l₄ ≡ set_start l i id x p
-unfolding set_start set_state
-start_set l l₁ l₂ l₃ l₄ i id x p f n ef en e₁ e₂ e₃ e₄ = rw (e₄, e₃, e₂, e₁, ef, en ∙ id_is p) (simp towards_numerals)
-  where
-    id_is : (p : Option ℕ) → unwrap_or p 0 ≡ id_word p
-    id_is None = refl
-    id_is (Some i) = refl
-
-pub end_set : (l l₁ l₂ : List ℕ) (i : ℕ) (r : Results) (n : ℕ) → l₁ ≡ set_results l i r → l₂ ≡ slice_set l₁ (i * 21 + 21) n → l₂ ≡ set_end l i r n
-unfolding set_end set_results
-end_set l l₁ l₂ i r n e₁ e₂ = rw (e₂, e₁) (simp towards_numerals)
-
--- `write_spaces`: of what is not there 0 is written
-abbrev pub said_spaces : Option Spaces → Spaces
-said_spaces s = unwrap_or s (record { space = 0; cspace = 0; root = 0 })
-
-pub spaces_set : (l l₁ l₂ l₃ l₄ : List ℕ) (i : ℕ) (s : Option Spaces) (f : ℕ) (said : Spaces) → f ≡ is_word s → said ≡ said_spaces s
-    → l₁ ≡ slice_set l (i * 21 + 7) f → l₂ ≡ slice_set l₁ (i * 21 + 8) said.space → l₃ ≡ slice_set l₂ (i * 21 + 9) said.cspace → l₄ ≡ slice_set l₃ (i * 21 + 10) said.root
-    → l₄ ≡ set_spaces l i s
-unfolding set_spaces
-spaces_set l l₁ l₂ l₃ l₄ i None f said ef es e₁ e₂ e₃ e₄ = rw (e₄, e₃, e₂, e₁, ef, es) (simp towards_numerals)
-spaces_set l l₁ l₂ l₃ l₄ i (Some s) f said ef es e₁ e₂ e₃ e₄ = rw (e₄, e₃, e₂, e₁, ef, es) (simp towards_numerals)
-
 -- `write_thread`
-pub thread_set : (l l₁ l₂ l₃ l₄ : List ℕ) (i id : ℕ) (t : Thread) → l₁ ≡ set_start l i id t.state t.budget → l₂ ≡ set_spaces l₁ i t.spaces
-    → l₃ ≡ set_context l₂ i t.context → l₄ ≡ set_end l₃ i t.results t.ticks → l₄ ≡ set_thread l i (row id t)
-unfolding set_start set_spaces set_context set_end set_thread
-thread_set l l₁ l₂ l₃ l₄ i id t e₁ e₂ e₃ e₄ = rw (e₄, e₃, e₂, e₁) (simp towards_numerals)
+pub thread_set : (l l₁ l₂ : List ℕ) (i id : ℕ) (t : Thread) → l₁ ≡ slice_set l (i * 21 + 1) id → l₂ ≡ sets l₁ (i * 21 + 2) (thread_words t) → l₂ ≡ set_thread l i (row id t)
+unfolding set_thread
+thread_set l l₁ l₂ i id t e₁ e₂ = rw (e₂, e₁) (simp towards_numerals)
 
 -- the default of a place past the end
 abbrev pub no_row : Row Thread
 no_row = row 0 (fresh Inactive None)
 
-abbrev pub no_exit : Exit
+abbrev pub no_exit : Exit Cause
 no_exit = record { thread = 0; cause = Destroyed }
 
-pub wide_exit : (e : Exit) → length (exit_fields e) ≡ 2
+pub wide_exit : (e : Exit Cause) → length (exit_fields e) ≡ 2
 wide_exit e = refl
 
 -- the words of a table of threads say its rows
@@ -136,7 +96,7 @@ module _ (l : List ℕ) (rows : List (Row Thread)) (h : Holds thread_fields 21 l
   threads_in_are = rows_are thread_fields 21 thread_at no_row l rows h thread_at_is
 
 -- the words of a log say its exits
-module _ (l : List ℕ) (log : List Exit) (h : Holds exit_fields 2 l log) where
+module _ (l : List ℕ) (log : List (Exit Cause)) (h : Holds exit_fields 2 l log) where
   pub exit_at_is : (i : ℕ) → i < length log → exit_at l i ≡ slice_index_or log i no_exit
   exit_at_is i a =
       let w : (j : ℕ) → j < 2 → slice_index l (i * 2 + suc j) ≡ get_or (exit_fields (slice_index_or log i no_exit)) j 0 = λ j b. holds_word exit_fields 2 wide_exit l log h i j no_exit a b in

@@ -137,13 +137,13 @@ parts_in a k =
       exits = X.rest;
     })
 
--- `parts_are_sound`: c is the current thread
-module _ (a : List ℕ) (c : ℕ) (is_c : c ≡ slice_index (words (head a)) 0) where
-  pub parts_no : (SoundTables (words (threads_part a)) (words (queue_part a)) c → ⊥) → SoundParts a → ⊥
-  parts_no h k = h (rw is_c k.tables)
+-- `parts_are_sound`: the parts that it reads, and the current thread
+module _ (a t q x : List ℕ) (c : ℕ) (is_t : t ≡ threads_part a) (is_q : q ≡ queue_part a) (is_x : x ≡ exits_part a) (is_c : c ≡ slice_index (words (head a)) 0) where
+  pub parts_no : (SoundTables (words t) (words q) c → ⊥) → SoundParts a → ⊥
+  parts_no h k = h (rw (is_t, is_q, is_c) k.tables)
 
-  pub parts_tell : SoundTables (words (threads_part a)) (words (queue_part a)) c → (r : Bool) → Tells r (SoundExits (words (exits_part a))) → Tells r (SoundParts a)
-  parts_tell tables r t = record { so = λ q. record { tables = rw is_c at tables; exits = t.so q }; not = λ q k. t.not q k.exits }
+  pub parts_tell : SoundTables (words t) (words q) c → (r : Bool) → Tells r (SoundExits (words x)) → Tells r (SoundParts a)
+  parts_tell tables r s = record { so = λ e. record { tables = rw (is_t, is_q, is_c) at tables; exits = rw is_x at (s.so e) }; not = λ e k. s.not e (rw is_x k.exits) }
 
 -- `is_sound`
 module _ (a : List ℕ) where

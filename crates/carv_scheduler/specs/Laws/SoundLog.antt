@@ -1,17 +1,23 @@
 -- Question 1 of the exit log: each cause is a listed one. Assumes nothing.
-use Rattle.std.specs.Prelude.{◌≡◌, ℕ, ◌+◌, ◌*◌, ◌<◌, ◌≤◌, true, List, drop, slice_index}
+use Rattle.std.specs.Prelude.{◌≡◌, ℕ, ◌+◌, ◌*◌, ◌≤◌, Bool, true, List, drop, slice_index}
+use Rattle.std.proofs.Common.{sym, ap, ◌∙◌, arith}
+use Rattle.std.proofs.lemmas.Bool.{false≢true}
+use Rattle.std.specs.List.{list_all, range_with_len}
+use Rattle.carv_area.specs.Lists.{tab}
 use Rattle.carv_area.specs.Zero.{all_zero}
+use Rattle.carv_objects.specs.Laws.SoundWalk.{Tells}
+use Rattle.carv_scheduler_spec.specs.Sound.{each}
 use Rattle.carv_scheduler.specs.Area.{cause_listed_at, exits_listed}
-use Rattle.carv_scheduler.specs.Laws.SoundWalk.{Listed, SoundExits}
-use Rattle.carv_scheduler.specs.Laws.Listed.{each_in, cause_words}
+use Rattle.carv_scheduler.specs.Laws.SoundWalk.{SoundExits}
+use Rattle.carv_scheduler.specs.Laws.Listed.{each_range}
 
-pub exit_listed : {u : List ℕ} → SoundExits u → (k : ℕ) → k < slice_index u 0 → Listed u k
-exit_listed {u} S k l = cause_words u S.causes k l
-
-pub exits_sound : (u : List ℕ) (n : ℕ) → n ≡ slice_index u 0 → n ≤ 32 → all_zero (drop (n * 2 + 1) u) ≡ true → ((k : ℕ) → k < n → Listed u k) → SoundExits u
+-- what a test of each exit's cause tells, where the rest is in order
+pub exits_tell : (u : List ℕ) (n : ℕ) → n ≡ slice_index u 0 → n ≤ 32 → all_zero (drop (n * 2 + 1) u) ≡ true
+    → (r : Bool) → r ≡ list_all (cause_listed_at u) (range_with_len 0 n) → Tells r (SoundExits u)
 unfolding exits_listed
-exits_sound u n e few rest h = record {
-  few = rw e at few;
-  rest = rw e at rest;
-  causes = each_in (cause_listed_at u) (slice_index u 0) (λ i. i) (λ k l. h k (rw e l));
-}
+exits_tell u n e few rest r a =
+    let z : r ≡ exits_listed u = a ∙ each_range (cause_listed_at u) (λ i. i) 0 n (λ k. omega arith) ∙ ap (λ (k : ℕ). each (cause_listed_at u) (tab k (λ i. i))) e in
+    record {
+      so = λ q. record { few = rw e at few; rest = rw e at rest; causes = sym z ∙ q };
+      not = λ q S. false≢true (sym q ∙ z ∙ S.causes);
+    }

@@ -1,8 +1,11 @@
 -- Rows by place and by id, for question 1: tests of a list made of a function, the order of the threads' ids, and what stands under an id. Assumes nothing.
-use Rattle.std.specs.Prelude.{◌≡◌, ℕ, zero, suc, ◌+◌, ◌-◌, ◌*◌, ◌^◌, ◌<◌, ◌≤◌, Bool, true, List, [], ◌∷◌, ◌++◌, map, length, drop, ◌≢◌, slice_index, slice_index_or, Option, Some, None}
+use Rattle.std.specs.Prelude.{◌≡◌, ℕ, zero, suc, ◌+◌, ◌-◌, ◌*◌, ◌^◌, ◌<◌, ◌≤◌, Bool, true, false, List, [], ◌∷◌, ◌++◌, map, length, ◌≢◌, slice_index, slice_index_or, Option, Some, None}
 use Rattle.std.proofs.Math.Path.{refl, sym, ap}
 use Rattle.std.proofs.Common.{◌∙◌, subst, ⊎_elim, mul-one, arith}
-use Rattle.std.proofs.lemmas.Bool.{false≢true}
+use Rattle.std.proofs.lemmas.Bool.{true≢false, false≢true}
+use Rattle.std.proofs.lemmas.List.FromFn.{length-range_with_len, get_or-range_with_len}
+use Rattle.std.specs.Bool.{MatchBool}
+use Rattle.std.specs.List.{AllWithin, HoldsAt, range_with_len}
 use Rattle.carv_area.specs.Table.{Row, at}
 use Rattle.carv_area.specs.Lists.{tab}
 use Rattle.carv_area.specs.Laws.Lists.{length_tab, get_or_tab, lt_or_ge}
@@ -10,16 +13,16 @@ use Rattle.carv_area.specs.Words.{words}
 use Rattle.carv_area.specs.Keys as keys
 use Rattle.carv_area.specs.Keys.{keys, find_in}
 use Rattle.carv_area.specs.Laws.Keys.{length_keys, get_or_keys}
-use Rattle.carv_area.specs.Zero.{all_zero}
 use Rattle.carv_area.specs.Stored.{Keyed}
 use Rattle.carv_area.specs.Laws.Stored.{keyed_of}
 use Rattle.carv_area.specs.Lookup.{Located}
 use Rattle.carv_area.specs.Laws.Lookup.{ids, located, rising_ids, ids_rising}
+use Rattle.carv_objects.specs.Laws.SoundWalk.{Tells}
 use Rattle.carv_budget.proofs.Laws.Account.{first, second}
 use Rattle.carv_objects_spec.specs.Sound.{every}
 use Rattle.carv_scheduler_spec.specs.declared.Thread.{Thread}
 use Rattle.carv_scheduler_spec.specs.Scheduler.{or_fresh, found, thread, has}
-use Rattle.carv_scheduler.specs.Area.{thread_at, threads_in, behind}
+use Rattle.carv_scheduler.specs.Area.{thread_at, threads_in}
 use Rattle.carv_scheduler.specs.Laws.Rows.{no_row}
 use Rattle.carv_scheduler.specs.Laws.Places.{found_here, found_gone}
 use Rattle.carv_scheduler.specs.Laws.SoundWalk.{id_at, it_at, key_at, Ordered, Rise, Order}
@@ -52,13 +55,32 @@ module _ {A : Type 0} where
 pub one_more : (C : ℕ → Type 0) (i : ℕ) → ((k : ℕ) → k < i → C k) → C i → (k : ℕ) → k < i + 1 → C k
 one_more C i h e k l = ⊎_elim (h k) (λ (a : i ≤ k). let q : i ≡ k = omega arith in subst C q e) (lt_or_ge k i)
 
+-- what an answer says of itself
+pub tells_so : {P : Type 0} {r : Bool} → r ≡ true → Tells r P → P
+tells_so e t = t.so e
+
+pub tells_not : {P : Type 0} {r : Bool} → r ≡ false → Tells r P → P → ⊥
+tells_not e t = t.not e
+
+-- what `all` over the places below n tells
+pub all_tells : (C : ℕ → Type 0) (n : ℕ) (r : Bool)
+    → MatchBool r (AllWithin C (range_with_len 0 n) 0 (length (range_with_len 0 n))) ((k : ℕ) × (k < length (range_with_len 0 n)) × HoldsAt (λ i. C i → ⊥) (range_with_len 0 n) k)
+    → Tells r ((k : ℕ) → k < n → C k)
+all_tells C n true h = record {
+  so = λ _ k l. let q : slice_index_or (range_with_len 0 n) k 0 ≡ k = omega (arith, get_or-range_with_len 0 n k 0 l) in
+      subst C q (h k 0 (omega arith) (omega (arith, l, length-range_with_len 0 n)));
+  not = λ e. absurd (true≢false e);
+}
+all_tells C n false h = record {
+  so = λ e. absurd (false≢true e);
+  not = λ _ F. let l : h.0 < n = omega (arith, h.1, length-range_with_len 0 n) in
+      let q : h.0 ≡ slice_index_or (range_with_len 0 n) h.0 0 = omega (arith, get_or-range_with_len 0 n h.0 0 l) in
+      h.2 0 (subst C q (F h.0 l));
+}
+
 -- the word at place j of the queue
 pub key_is : (v : List ℕ) (j : ℕ) → slice_index v (j + 1) ≡ key_at v j
 key_is v j = ap (λ (k : ℕ). slice_index v (k + 1)) (sym (mul-one j))
-
--- and the words behind the queue
-pub behind_queue : (v : List ℕ) (m : ℕ) → m ≡ slice_index v 0 → all_zero (drop (m + 1) v) ≡ all_zero (behind 1 v)
-behind_queue v m e = ap (λ (k : ℕ). all_zero (drop (k + 1) v)) (e ∙ sym (mul-one (slice_index v 0)))
 
 -- ---- the order of the threads' ids
 

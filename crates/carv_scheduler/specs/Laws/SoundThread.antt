@@ -1,17 +1,15 @@
 -- The tests of one thread's words are question 1 of it: its codes are listed, and it passes the tests of specs/Sound.antt. Assumes nothing.
-use Rattle.std.specs.Prelude.{◌≡◌, ℕ, Bool, true, false, cond, ◌&&◌, ◌||◌, List, ◌==◌, nat_le, ◌+◌, ◌*◌, slice_index, is_none}
+use Rattle.std.specs.Prelude.{◌≡◌, ℕ, Bool, true, cond, ◌&&◌, ◌||◌, List, ◌==◌, nat_le, ◌+◌, ◌*◌, slice_index, is_none}
 use Rattle.std.proofs.Common.{sym, ap, ◌∙◌, add_assoc}
-use Rattle.std.proofs.lemmas.Bool.{false≢true}
 use Rattle.carv_budget.proofs.Laws.Account.{first, second}
 use Rattle.carv_objects_spec.specs.Sound.{all}
 use Rattle.carv_objects_spec.proofs.Laws.SoundLaws.{all_told, all_shown}
-use Rattle.carv_objects.specs.Laws.SoundWalk.{Tells}
 use Rattle.carv_scheduler_spec.specs.Scheduler.{Board, idle, ready, running, dead, is}
 use Rattle.carv_scheduler_spec.specs.Sound.{member, implies, same, unpaid, thread_tests}
 use Rattle.carv_scheduler_spec.proofs.Laws.Codes.{dead_from, none_from}
 use Rattle.carv_scheduler.specs.Laws.Listed.{ready_at, running_at}
 use Rattle.carv_scheduler.specs.Area.{state_listed_at, budget_listed_at, spaces_listed_at, thread_listed}
-use Rattle.carv_scheduler.specs.Laws.SoundWalk.{id_at, it_at, state_fits, wait_fits, budget_fits, space_fits, Fits}
+use Rattle.carv_scheduler.specs.Laws.SoundWalk.{id_at, it_at, wait_fits, space_fits, Fits}
 
 -- What question 1 asks of the thread at place i: that its codes are listed, and the tests of carv_scheduler_spec/specs/Sound.antt.
 module _ (b : Board) (w : List ℕ) (i : ℕ) where
@@ -88,41 +86,3 @@ module _ (b : Board) (w : List ℕ) (i : ℕ) where
             ),
           ),
         )
-
--- `thread_fits`: the words that are read, and what a test of them tells. b is its answer
-module _ (w : List ℕ) (c i : ℕ) (q : Bool) (id s : ℕ) (is_id : id ≡ id_at w i) (is_s : s ≡ slice_index w (i * 21 + 2)) where
-  state_of : (b : Bool) → b ≡ state_fits q c id s → b ≡ state_fits q c (id_at w i) (slice_index w (i * 21 + 2))
-  state_of b e = rw (← is_id, ← is_s) e
-
-  pub no_state : (b : Bool) → b ≡ state_fits q c id s → b ≡ false → Fits w c i q → ⊥
-  no_state b e f k = false≢true (sym f ∙ state_of b e ∙ k.state)
-
-  module _ (k n : ℕ) (is_k : k ≡ slice_index w (i * 21 + 3)) (is_n : n ≡ slice_index w (i * 21 + 4)) where
-    wait_of : (b : Bool) → b ≡ wait_fits s k n → b ≡ wait_fits (slice_index w (i * 21 + 2)) (slice_index w (i * 21 + 3)) (slice_index w (i * 21 + 4))
-    wait_of b e = rw (← is_s, ← is_k, ← is_n) e
-
-    pub no_wait : (b : Bool) → b ≡ wait_fits s k n → b ≡ false → Fits w c i q → ⊥
-    no_wait b e f t = false≢true (sym f ∙ wait_of b e ∙ t.wait)
-
-    module _ (x y : ℕ) (is_x : x ≡ slice_index w (i * 21 + 5)) (is_y : y ≡ slice_index w (i * 21 + 6)) where
-      budget_of : (b : Bool) → b ≡ budget_fits id x y → b ≡ budget_fits (id_at w i) (slice_index w (i * 21 + 5)) (slice_index w (i * 21 + 6))
-      budget_of b e = rw (← is_id, ← is_x, ← is_y) e
-
-      pub no_budget : (b : Bool) → b ≡ budget_fits id x y → b ≡ false → Fits w c i q → ⊥
-      no_budget b e f t = false≢true (sym f ∙ budget_of b e ∙ t.budget)
-
-      -- all but the space is in order
-      pub space_tells : (z₀ z₁ z₂ z₃ : ℕ) → z₀ ≡ slice_index w (i * 21 + 7) → z₁ ≡ slice_index w (i * 21 + 8) → z₂ ≡ slice_index w (i * 21 + 9) → z₃ ≡ slice_index w (i * 21 + 10)
-          → (b₁ : Bool) → b₁ ≡ state_fits q c id s → b₁ ≡ true → (b₂ : Bool) → b₂ ≡ wait_fits s k n → b₂ ≡ true
-          → (b₃ : Bool) → b₃ ≡ budget_fits id x y → b₃ ≡ true → (b : Bool) → b ≡ space_fits z₀ z₁ z₂ z₃ → Tells b (Fits w c i q)
-      space_tells z₀ z₁ z₂ z₃ is₀ is₁ is₂ is₃ b₁ e₁ f₁ b₂ e₂ f₂ b₃ e₃ f₃ b e =
-          let e' : b ≡ space_fits (slice_index w (i * 21 + 7)) (slice_index w (i * 21 + 8)) (slice_index w (i * 21 + 9)) (slice_index w (i * 21 + 10)) = rw (← is₀, ← is₁, ← is₂, ← is₃) e in
-          record {
-            so = λ f. record {
-              state = sym (state_of b₁ e₁) ∙ f₁;
-              wait = sym (wait_of b₂ e₂) ∙ f₂;
-              budget = sym (budget_of b₃ e₃) ∙ f₃;
-              space = sym e' ∙ f;
-            };
-            not = λ f t. false≢true (sym f ∙ e' ∙ t.space);
-          }

@@ -1,13 +1,13 @@
 -- What question 1's walks over the threads, the queue and the exits know. w is the threads' words, v the queue's, u the exits', and c the current thread.
 -- Assumes nothing.
-use Rattle.std.specs.Prelude.{◌≡◌, ℕ, ◌+◌, ◌-◌, ◌*◌, ◌^◌, ◌<◌, ◌≤◌, Bool, true, false, cond, not, ◌&&◌, ◌||◌, List, length, ◌==◌, nat_le, slice_index, slice_index_or}
+use Rattle.std.specs.Prelude.{◌≡◌, ℕ, ◌+◌, ◌-◌, ◌*◌, ◌^◌, ◌<◌, ◌≤◌, Bool, true, false, cond, not, ◌&&◌, ◌||◌, List, ◌==◌, nat_le, slice_index, slice_index_or}
 use Rattle.carv_area.specs.Table.{Rising}
 use Rattle.carv_area.specs.Lists.{tab}
 use Rattle.carv_area.specs.Words.{words}
 use Rattle.carv_area.specs.Keys.{keys}
 use Rattle.carv_area.specs.Zero.{all_zero}
 use Rattle.carv_scheduler_spec.specs.declared.Thread.{Thread}
-use Rattle.carv_scheduler_spec.specs.Scheduler.{idle, inactive, ready, running, is, cause_listed, thread, has}
+use Rattle.carv_scheduler_spec.specs.Scheduler.{idle, inactive, ready, running, is, thread, has}
 use Rattle.carv_scheduler_spec.specs.Sound.{member, distinct, each, implies, same, unpaid}
 use Rattle.carv_scheduler.specs.Area.{head, threads_part, queue_part, exits_part, thread_at, threads_in, exits_listed, behind}
 
@@ -43,9 +43,9 @@ pub record Fits (w : List ℕ) (c i : ℕ) (q : Bool) : Type 0 where
   pub budget : budget_fits (id_at w i) (slice_index w (i * 21 + 5)) (slice_index w (i * 21 + 6)) ≡ true
   pub space : space_fits (slice_index w (i * 21 + 7)) (slice_index w (i * 21 + 8)) (slice_index w (i * 21 + 9)) (slice_index w (i * 21 + 10)) ≡ true
 
--- the first n threads are, where a mark, 1, says which are in the queue
-abbrev pub Fit : (w : List ℕ) (c n : ℕ) → List ℕ → Type 0
-Fit w c n ms = (k : ℕ) → k < n → Fits w c k (slice_index ms k == 1)
+-- the first n threads are, where marks say which are in the queue
+abbrev pub Fit : (w : List ℕ) (c n : ℕ) → List Bool → Type 0
+Fit w c n ms = (k : ℕ) → k < n → Fits w c k (slice_index_or ms k false)
 
 -- the ids of the threads rise
 abbrev pub Ordered : List ℕ → Type 0
@@ -79,24 +79,19 @@ pub record SoundQueue (w v : List ℕ) : Type 0 where
   pub distinct : distinct (keys 1 v) ≡ true
   pub queued : each (queued w) (keys 1 v) ≡ true
 
-abbrev pub bit : Bool → ℕ
-bit true = 1
-bit false = 0
-
 -- the first j ids of the queue are in order, and just their places are marked
-pub record Walk (w v : List ℕ) (j : ℕ) (ms : List ℕ) : Type 0 where
-  pub size : length ms ≡ 128
+pub record Walk (w v : List ℕ) (j : ℕ) (ms : List Bool) : Type 0 where
   pub queued : (k : ℕ) → k < j → queued w (key_at v k) ≡ true
   pub distinct : distinct (tab j (key_at v)) ≡ true
-  pub marks : (k : ℕ) → k < slice_index w 0 → slice_index ms k ≡ bit (member (id_at w k) (tab j (key_at v)))
+  pub marks : (k : ℕ) → k < slice_index w 0 → slice_index_or ms k false ≡ member (id_at w k) (tab j (key_at v))
 
 -- one turn of the walk over the queue
-pub record Turned (w v : List ℕ) (j : ℕ) (r : Bool) (ms : List ℕ) : Type 0 where
+pub record Turned (w v : List ℕ) (j : ℕ) (r : Bool) (ms : List Bool) : Type 0 where
   pub on : r ≡ true → Walk w v (j + 1) ms
   pub off : r ≡ false → SoundQueue w v → ⊥
 
 -- all of them
-pub record Walked (w v : List ℕ) (r : Bool) (ms : List ℕ) : Type 0 where
+pub record Walked (w v : List ℕ) (r : Bool) (ms : List Bool) : Type 0 where
   pub on : r ≡ true → Walk w v (slice_index v 0) ms
   pub off : r ≡ false → SoundQueue w v → ⊥
 
@@ -115,10 +110,6 @@ pub record SoundTables (w v : List ℕ) (c : ℕ) : Type 0 where
   pub rest : all_zero (behind 21 w) ≡ true
   pub rest_queue : all_zero (behind 1 v) ≡ true
   pub threads : SoundThreads w v c
-
--- the cause of exit k is a listed one
-abbrev pub Listed : List ℕ → ℕ → Type 0
-Listed u k = cause_listed (slice_index u (k * 2 + 2)) ≡ true
 
 -- the exits are in order, and there are zeros behind them
 pub record SoundExits (u : List ℕ) : Type 0 where

@@ -2,14 +2,14 @@
 use Rattle.std.specs.Prelude.{◌≡◌, ℕ, ◌*◌, ◌<◌, ◌≤◌, Bool, true, false, cond, List, [], ◌∷◌, set, ◌==◌, get_or, slice_index_or, slice_set, refl, None, Ok, Option, Some}
 use Rattle.std.proofs.Common.{sym, ◌∙◌, eqb-true, le-leb}
 use Rattle.std.proofs.Math.Path.{ap}
-use Rattle.std.proofs.lemmas.Bool.{false≢true, lt-leb}
+use Rattle.std.proofs.lemmas.Bool.{lt-leb}
 use Rattle.carv_area.specs.Table.{Row, alter, pick}
-use Rattle.carv_area.specs.Lookup.{Here, Gone}
+use Rattle.carv_area.specs.Lookup.{Here}
 use Rattle.carv_objects_spec.specs.Reply.{refuse, accept}
 use Rattle.carv_objects_spec.specs.Registry.{Registry, charge_most}
 use Rattle.carv_scheduler_spec.specs.declared.Thread.{Thread}
 use Rattle.carv_scheduler.specs.Answer.{nothing}
-use Rattle.carv_scheduler_spec.specs.Scheduler.{Board, tick_ns, is_due, thread, has, ticked, with_registry, with_threads, charge_tick, wake_all, tick}
+use Rattle.carv_scheduler_spec.specs.Scheduler.{Board, tick_ns, is_due, thread, ticked, with_registry, with_threads, charge_tick, wake_all, tick}
 use Rattle.carv_scheduler_spec.proofs.Laws.SoundFacts.{Sound}
 use Rattle.carv_scheduler_spec.proofs.Laws.Steps.{registry_kept, charge_tick_kept, ticked_kept}
 use Rattle.carv_scheduler_spec.proofs.Laws.Kept.{tick_kept}
@@ -19,7 +19,7 @@ use Rattle.carv_scheduler.specs.Laws.Formed.{Leaves, leaves_as}
 use Rattle.carv_scheduler.specs.Laws.AreaSteps as area
 use Rattle.carv_scheduler.specs.Laws.AreaLaws.{area_sound, area_formed, is_area}
 use Rattle.carv_scheduler.specs.Laws.Calls.{answered}
-use Rattle.carv_scheduler.specs.Laws.Places.{here_thread, gone_has}
+use Rattle.carv_scheduler.specs.Laws.Places.{here_thread}
 
 -- the board b after the current thread's tick at this time, before the waking
 unfoldable pub accounted : (time : ℕ) → Board → Board
@@ -53,15 +53,14 @@ module _ (time : ℕ) (p : Option ℕ) (r : Registry) where
   charge_some : (i : ℕ) → p ≡ Some i → charge_most i tick_ns time r ≡ charge_tick time p r
   charge_some i e = ap (λ (q : Option ℕ). charge_tick time q r) (sym e)
 
--- the current thread, x, stands at place i
-module _ (time : ℕ) (b : Board) (x i : ℕ) (ex : x ≡ b.current) (h : Here no_row b.threads x i) where
+-- the current thread stands at place i
+module _ (time : ℕ) (b : Board) (i : ℕ) (h : Here no_row b.threads b.current i) where
   threads_ticked : set b.threads i (row (slice_index_or b.threads i no_row).id (ticked (slice_index_or b.threads i no_row).it)) ≡ alter b.current ticked b.threads
   threads_ticked =
       ap (λ (y : ℕ). set b.threads i (row y (ticked (slice_index_or b.threads i no_row).it))) h.same ∙ sym (h.changed ticked)
-      ∙ ap (λ (y : ℕ). alter y ticked b.threads) ex
 
   payer_is : (slice_index_or b.threads i no_row).it.budget ≡ (thread b.threads b.current).budget
-  payer_is = sym (ap (λ (y : ℕ). (thread b.threads y).budget) (sym ex) ∙ ap (λ (t : Thread). t.budget) (here_thread b.threads x i h))
+  payer_is = sym (ap (λ (t : Thread). t.budget) (here_thread b.threads b.current i h))
 
   free_is : (slice_index_or b.threads i no_row).it.budget ≡ None
       → area.with_threads (slice_set b.threads i (row (slice_index_or b.threads i no_row).id (ticked (slice_index_or b.threads i no_row).it))) b ≡ accounted time b
@@ -85,22 +84,18 @@ accounted_kept time b o =
     (charge_tick_kept time (thread b.threads b.current).budget b.registry o.registry) (ticked_kept b b.current o o.current_here)
 
 -- `account`
-module _ (time : ℕ) (a : List ℕ) (s : sound_area a ≡ true) (x : ℕ) (ex : x ≡ (decode a).current) where
-  -- the current thread is there
-  pub account_gone : Gone (decode a).threads x → Is a (accounted time (decode a))
-  account_gone g = absurd (false≢true (sym (gone_has (decode a).threads x g) ∙ ap (has (decode a).threads) ex ∙ (area_sound a s).current_here))
-
-  module _ (i : ℕ) (h : Here no_row (decode a).threads x i) (p : Option ℕ) (ep : p ≡ (get_or (decode a).threads i no_row).it.budget)
+module _ (time : ℕ) (a : List ℕ) (s : sound_area a ≡ true) where
+  module _ (i : ℕ) (h : Here no_row (decode a).threads (decode a).current i) (p : Option ℕ) (ep : p ≡ (get_or (decode a).threads i no_row).it.budget)
       (a₁ : List ℕ) (l : Leaves a₁ (area.with_threads (slice_set (decode a).threads i (row (slice_index_or (decode a).threads i no_row).id (ticked (slice_index_or (decode a).threads i no_row).it))) (decode a))) where
     pub account_free : p ≡ None → Is a₁ (accounted time (decode a))
     account_free z =
-        is_area a₁ (accounted time (decode a)) (leaves_as a₁ _ _ (free_is time (decode a) x i ex h (sym ep ∙ z)) l) (accounted_kept time (decode a) (area_sound a s))
+        is_area a₁ (accounted time (decode a)) (leaves_as a₁ _ _ (free_is time (decode a) i h (sym ep ∙ z)) l) (accounted_kept time (decode a) (area_sound a s))
 
     pub account_paid : (y : ℕ) → p ≡ Some y
         → (a₂ : List ℕ) → Leaves a₂ (with_registry (charge_most y tick_ns time (decode a₁).registry) (decode a₁)) → Is a₂ (accounted time (decode a))
     account_paid y z a₂ m =
         is_area a₂ (accounted time (decode a))
-        (leaves_as a₂ _ _ (ap (λ (b : Board). with_registry (charge_most y tick_ns time b.registry) b) l.is ∙ paid_is time (decode a) x i ex h y (sym ep ∙ z)) m)
+        (leaves_as a₂ _ _ (ap (λ (b : Board). with_registry (charge_most y tick_ns time b.registry) b) l.is ∙ paid_is time (decode a) i h y (sym ep ∙ z)) m)
         (accounted_kept time (decode a) (area_sound a s))
 
 -- `tick`

@@ -1,8 +1,8 @@
 -- The codes of specs/Codes.antt: the words of a record are listed and say it, listed words are those of what they say, and, written out, what is listed and what is not.
 -- Assumes nothing.
-use Rattle.std.specs.Prelude.{◌≡◌, refl, true, false, ◌&&◌, ℕ, ◌≤◌, eqb, leb, Option, Some, None, is_none}
+use Rattle.std.specs.Prelude.{◌≡◌, refl, Bool, true, false, cond, ◌&&◌, ℕ, zero, suc, ◌<◌, ◌≤◌, eqb, leb, Option, Some, None, is_none}
 use Rattle.std.proofs.Common.{sym, ap, ◌∙◌, subst, arith, eqb-true, leb-true}
-use Rattle.std.proofs.lemmas.Bool.{eqb-false}
+use Rattle.std.proofs.lemmas.Bool.{false≢true, eqb-false, ne_eqb}
 use Rattle.carv_area.specs.Laws.Table.{test}
 use Rattle.carv_budget.proofs.Laws.Account.{first, second}
 use Rattle.carv_scheduler_spec.specs.declared.Wait.{Wait}
@@ -12,7 +12,7 @@ use Rattle.carv_scheduler_spec.specs.declared.State.TheVariants.{Inactive, Ready
 use Rattle.carv_scheduler_spec.specs.declared.Spaces.{Spaces}
 use Rattle.carv_scheduler_spec.specs.declared.Cause.{Cause}
 use Rattle.carv_scheduler_spec.specs.declared.Cause.TheVariants.{Destroyed, Faulted}
-use Rattle.carv_scheduler_spec.specs.Scheduler.{inactive, ready, running, dead, wait_listed, cause_listed, wait, kind_of, number_of, cause_of}
+use Rattle.carv_scheduler_spec.specs.Scheduler.{inactive, ready, running, dead, wait_listed, cause_listed, wait, kind_of, number_of, due, cause_of}
 use Rattle.carv_scheduler_spec.specs.Codes.{is_word, state_word, kind_word, number_word, id_word, space_word, cspace_word, root_word, cause_word, state_from, budget_from, spaces_from, state_listed, budget_listed, spaces_listed, exit_listed, NamedWait, NamedCause}
 
 -- The words of a record are listed, and say it.
@@ -73,21 +73,41 @@ pub cause_back : (c : Cause) → cause_of (cause_word c) ≡ c
 cause_back Destroyed = refl
 cause_back Faulted = refl
 
-five : (k : ℕ) → 1 ≤ k → k ≤ 5 → (k ≡ 1 → ⊥) → (k ≡ 2 → ⊥) → (k ≡ 3 → ⊥) → (k ≡ 4 → ⊥) → 5 ≡ k
-five k low high a c d e = omega arith
+-- what holds of the five codes of a wait's kind, or of a state, holds of each that is listed
+five : (P : ℕ → Type 0) → P 1 → P 2 → P 3 → P 4 → P 5 → (k : ℕ) → (leb 1 k && leb k 5) ≡ true → P k
+five P p1 p2 p3 p4 p5 zero h = absurd (false≢true h)
+five P p1 p2 p3 p4 p5 (suc zero) h = p1
+five P p1 p2 p3 p4 p5 (suc (suc zero)) h = p2
+five P p1 p2 p3 p4 p5 (suc (suc (suc zero))) h = p3
+five P p1 p2 p3 p4 p5 (suc (suc (suc (suc zero)))) h = p4
+five P p1 p2 p3 p4 p5 (suc (suc (suc (suc (suc zero))))) h = p5
+five P p1 p2 p3 p4 p5 (suc (suc (suc (suc (suc (suc k)))))) h = absurd (sixth (suc (suc (suc (suc (suc (suc k)))))) (omega arith) h)
+  where
+    sixth : (k : ℕ) → 5 < k → (leb 1 k && leb k 5) ≡ true → ⊥
+    sixth k low h = let high = leb-true k 5 (second (leb 1 k) (leb k 5) h) in omega arith
 
 -- a wait has the kind that it was made of, if that is listed, and its number
 pub kind_same : (kind number : ℕ) → wait_listed kind ≡ true → kind_of (wait kind number) ≡ kind
-kind_same k n h = test (eqb k 1) (λ a. rw a (sym (eqb-true k 1 a))) (λ a.
-    test (eqb k 2) (λ c. rw (a, c) (sym (eqb-true k 2 c))) (λ c.
-    test (eqb k 3) (λ d. rw (a, c, d) (sym (eqb-true k 3 d))) (λ d.
-    test (eqb k 4) (λ e. rw (a, c, d, e) (sym (eqb-true k 4 e))) (λ e.
-    rw (a, c, d, e) (five k (leb-true 1 k (first (leb 1 k) (leb k 5) h)) (leb-true k 5 (second (leb 1 k) (leb k 5) h))
-    (eqb-false k 1 a) (eqb-false k 2 c) (eqb-false k 3 d) (eqb-false k 4 e))))))
+kind_same k n = five (λ k. kind_of (wait k n) ≡ k) refl refl refl refl refl k
 
 pub number_same : (kind number : ℕ) → number_of (wait kind number) ≡ number
-number_same k n = test (eqb k 1) (λ a. rw a) (λ a. test (eqb k 2) (λ c. rw (a, c)) (λ c.
-    test (eqb k 3) (λ d. rw (a, c, d)) (λ d. test (eqb k 4) (λ e. rw (a, c, d, e)) (λ e. rw (a, c, d, e)))))
+number_same k n = test (eqb k 1) (λ a. rw a) (λ a. test (eqb k 2) (λ c. rw (a, c)) (λ c. test (eqb k 3) (λ d. rw (a, c, d)) (λ d.
+    test (eqb k 4) (λ e. rw (a, c, d, e)) (λ e. test (eqb k 5) (λ f. rw (a, c, d, e, f)) (λ f. rw (a, c, d, e, f))))))
+
+-- a wait is due if its kind is 5 and its tick has come, and at no other kind, listed or not
+pub due_code : (n kind number : ℕ) → due n (Some (wait kind number)) ≡ (eqb kind 5 && leb number n)
+due_code n k number = test (eqb k 5) (λ f. rw (eqb-true k 5 f)) (λ f. rw f (none (eqb k 1) (eqb k 2) (eqb k 3) (eqb k 4)))
+  where
+    none : (a b c d : Bool) → due n (Some (cond a (Send number) (cond b (Recv number) (cond c (Reply number) (cond d (Notification number) (Send number)))))) ≡ false
+    none true b c d = refl
+    none false true c d = refl
+    none false false true d = refl
+    none false false false true = refl
+    none false false false false = refl
+
+-- so that no tick wakes a wait of a kind that isn't listed
+pub unlisted_not_due : (n kind number : ℕ) → wait_listed kind ≡ false → due n (Some (wait kind number)) ≡ false
+unlisted_not_due n k number h = due_code n k number ∙ ap (λ (b : Bool). b && leb number n) (ne_eqb k 5 (λ q. false≢true (sym h ∙ ap wait_listed q)))
 
 -- What a code names: a listed one names a wait, or a cause, another none.
 
@@ -129,16 +149,7 @@ module _ (s k n : ℕ) where
   running_from = test (eqb s 1) (λ a. rw (a, eqb-true s 1 a)) (λ a. test (eqb s 2) (λ c. rw (a, c, eqb-true s 2 c)) (λ c. test (eqb s 3) (λ d. rw (a, c, d)) (λ d. test (eqb s 4) (λ e. rw (a, c, d, e)) (λ e. rw (a, c, d, e)))))
 
   pub dead_from : (leb 1 s && leb s 5) ≡ true → dead (state_from s k n) ≡ eqb s 5
-  dead_from h = test (eqb s 1) (λ a. rw (a, eqb-true s 1 a)) (λ a. test (eqb s 2) (λ c. rw (a, c, eqb-true s 2 c)) (λ c.
-      test (eqb s 3) (λ d. rw (a, c, d, eqb-true s 3 d)) (λ d. test (eqb s 4) (λ e. rw (a, c, d, e, eqb-true s 4 e)) (λ e.
-      rw (
-        a,
-        c,
-        d,
-        e,
-        ← five s (leb-true 1 s (first (leb 1 s) (leb s 5) h)) (leb-true s 5 (second (leb 1 s) (leb s 5) h))
-            (eqb-false s 1 a) (eqb-false s 2 c) (eqb-false s 3 d) (eqb-false s 4 e),
-      )))))
+  dead_from = five (λ s. dead (state_from s k n) ≡ eqb s 5) refl refl refl refl refl s
 
 pub none_from : (f i : ℕ) → is_none (budget_from f i) ≡ eqb f 0
 none_from f i = test (eqb f 0) (λ a. rw a) (λ a. rw a)
@@ -151,25 +162,21 @@ pub record SameState (s k n : ℕ) : Type 0 where
   pub kind : kind_word (state_from s k n) ≡ k
   pub number : number_word (state_from s k n) ≡ n
 
-module _ (s k n : ℕ) where
-  no_wait : (eqb k 0 && eqb n 0) ≡ true → (0 ≡ k) × (0 ≡ n)
-  no_wait h = (sym (eqb-true k 0 (first (eqb k 0) (eqb n 0) h)), sym (eqb-true n 0 (second (eqb k 0) (eqb n 0) h)))
+pub state_same : (s k n : ℕ) → state_listed s k n ≡ true → SameState s k n
+state_same s k n h = five same (no_wait 1 refl refl refl) (no_wait 2 refl refl refl) (no_wait 3 refl refl refl)
+    (λ w. record { state = refl; kind = kind_same k n w; number = number_same k n }) (no_wait 5 refl refl refl)
+    s (first (leb 1 s && leb s 5) _ h) (second (leb 1 s && leb s 5) _ h)
+  where
+    same : ℕ → Type 0
+    same s = cond (eqb s 4) (wait_listed k) (eqb k 0 && eqb n 0) ≡ true → SameState s k n
 
-  pub state_same : state_listed s k n ≡ true → SameState s k n
-  state_same h =
-      let range = first (leb 1 s && leb s 5) _ h in
-      let waits = second (leb 1 s && leb s 5) _ h in
-      test (eqb s 1)
-      (λ a. let q = eqb-true s 1 a in let (x, y) = no_wait (rw q at waits) in rw q (record { state = refl; kind = x; number = y }))
-      (λ a. test (eqb s 2)
-      (λ c. let q = eqb-true s 2 c in let (x, y) = no_wait (rw q at waits) in rw q (record { state = refl; kind = x; number = y }))
-      (λ c. test (eqb s 3)
-      (λ d. let q = eqb-true s 3 d in let (x, y) = no_wait (rw q at waits) in rw q (record { state = refl; kind = x; number = y }))
-      (λ d. test (eqb s 4)
-      (λ e. let q = eqb-true s 4 e in rw q (record { state = refl; kind = kind_same k n (rw q at waits); number = number_same k n }))
-      (λ e. let q = sym (five s (leb-true 1 s (first (leb 1 s) (leb s 5) range)) (leb-true s 5 (second (leb 1 s) (leb s 5) range))
-      (eqb-false s 1 a) (eqb-false s 2 c) (eqb-false s 3 d) (eqb-false s 4 e)) in
-      let (x, y) = no_wait (rw q at waits) in rw q (record { state = refl; kind = x; number = y })))))
+    no_wait : (s : ℕ) → state_word (state_from s k n) ≡ s → kind_word (state_from s k n) ≡ 0 → number_word (state_from s k n) ≡ 0
+        → (eqb k 0 && eqb n 0) ≡ true → SameState s k n
+    no_wait s x y z h = record {
+      state = x;
+      kind = y ∙ sym (eqb-true k 0 (first (eqb k 0) (eqb n 0) h));
+      number = z ∙ sym (eqb-true n 0 (second (eqb k 0) (eqb n 0) h));
+    }
 
 -- the words of a budget
 pub record SameBudget (f i : ℕ) : Type 0 where

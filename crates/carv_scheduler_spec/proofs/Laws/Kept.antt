@@ -14,6 +14,7 @@ use Rattle.carv_scheduler_spec.specs.declared.State.TheVariants.{Inactive, Block
 use Rattle.carv_scheduler_spec.specs.declared.Context.{Context}
 use Rattle.carv_scheduler_spec.specs.declared.Results.{Results}
 use Rattle.carv_scheduler_spec.specs.declared.Exit.{Exit}
+use Rattle.carv_scheduler_spec.specs.declared.Cause.{Cause}
 use Rattle.carv_scheduler_spec.specs.Scheduler.{Board, BoardReply, idle, most_threads, tick_ns, tick_fits, inactive, ready, running, blocked, dead, is, is_due, wait, wait_listed, cause_listed, cause_of, in_spaces, results, fresh, or_fresh, thread, has, started, woken, ticked, with_registry, with_threads, logged, charge_tick, opening, create_user_thread, start, block_current, wake, is_blocked_on, kill, wake_all, tick, put_back, choose, plan, read_thread, on_registry}
 use Rattle.carv_scheduler_spec.specs.Sound.{unpaid}
 use Rattle.carv_scheduler_spec.proofs.Laws.SoundFacts.{Sound}
@@ -94,9 +95,9 @@ kill_kept i cause b o =
     let busy = not-true (eqb i idle) n in
     test (eqb i b.current)
     (λ a. rw a (let q = eqb-true i b.current a in
-    let e : Exit = record { thread = b.current; cause = cause_of cause } in
+    let e : Exit Cause = record { thread = b.current; cause = cause_of cause } in
     rw q (stop_kept b Dead (logged e b.exits) o (rw q at busy) refl refl (logged_few e b.exits o.few_exits))))
-    (λ a. rw a (let e : Exit = record { thread = i; cause = cause_of cause } in
+    (λ a. rw a (let e : Exit Cause = record { thread = i; cause = cause_of cause } in
     gone_kept b i (logged e b.exits) o busy a (logged_few e b.exits o.few_exits)))
 
 pub tick_kept : (n : ℕ) (b : Board) → Sound b → Sound (tick n b).after

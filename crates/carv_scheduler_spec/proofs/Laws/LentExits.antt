@@ -1,10 +1,11 @@
 -- A lent run of exits: what document 01's search finds in it is what the Rust's `exit_of` answers where its log is that run. Assumes nothing.
 use Rattle.std.specs.Prelude.{◌≡◌, List, ℕ}
 use Rattle.carv_scheduler_spec.specs.declared.Exit.{Exit}
+use Rattle.carv_scheduler_spec.specs.declared.Cause.{Cause}
 use Rattle.carv_scheduler_spec.specs.Scheduler.{Board, exit_in}
 use Rattle.carv_scheduler_spec.specs.Rust as rust
 use Rattle.carv_scheduler_spec.proofs.Laws.Refines.{exit_same}
 
 -- demand 2 for searches of lent exits: `exit_in` of carv_scheduler promises `exit_in`
-pub exit_in_rust : (i : ℕ) (exits : List Exit) (b : Board) → b.exits ≡ exits → exit_in i exits ≡ rust.exit_of i b
+pub exit_in_rust : (i : ℕ) (exits : List (Exit Cause)) (b : Board) → b.exits ≡ exits → exit_in i exits ≡ rust.exit_of i b
 exit_in_rust i exits b e = rw (← e) (exit_same i b.exits)

@@ -62,9 +62,6 @@ module _ (m : List (Row Thread)) where
         (λ a. rw (← eqb-true i j a) (ap found (Table.at_alter m i f (thread m i) (there i h)) ∙ sym h))
         (λ a. ap found (Table.at_alter_other m i j f (eqb-false i j a)))
 
-    pub budget_alter : (f (thread m i)).budget ≡ (thread m i).budget → (j : ℕ) → (thread (alter i f m) j).budget ≡ (thread m j).budget
-    budget_alter k j = rw (thread_alter j) (test (eqb i j) (λ a. rw (a, k, eqb-true i j a)) (λ a. rw a))
-
   -- after thread i is gone
   module _ (i l n : ℕ) (u : Rising l n m) where
     pub thread_erase : (j : ℕ) → thread (erase i m) j ≡ cond (eqb i j) (fresh Inactive None) (thread m j)

@@ -360,7 +360,7 @@ read_current_rust b = refl
 pub read_switches_rust : (b : Board) → s01.read_switches b ≡ accept (Some (word b.switches)) b
 read_switches_rust b = refl
 
-pub exit_same : (i : ℕ) (l : List Exit) → exit_in i l ≡ option_map (λ (e : Exit). e.cause) (rust.find_exit i l)
+pub exit_same : {C : Type 0} (i : ℕ) (l : List (Exit C)) → exit_in i l ≡ option_map (λ (e : Exit C). e.cause) (rust.find_exit i l)
 exit_same i [] = refl
 exit_same i (e ∷ l) = test (eqb e.thread i) (λ a. rw a) (λ a. rw a (exit_same i l))
 

@@ -15,6 +15,7 @@ use Rattle.carv_scheduler_spec.specs.declared.State.{State}
 use Rattle.carv_scheduler_spec.specs.declared.State.TheVariants.{Inactive, Ready, Running, Blocked, Dead}
 use Rattle.carv_scheduler_spec.specs.declared.Thread.{Thread}
 use Rattle.carv_scheduler_spec.specs.declared.Exit.{Exit}
+use Rattle.carv_scheduler_spec.specs.declared.Cause.{Cause}
 use Rattle.carv_scheduler_spec.specs.Scheduler.{Board, idle, tick_ns, inactive, ready, running, blocked, dead, is, wait_in, wait_of, fresh, thread, has, become, ticked, with_registry, with_threads, join, without, logged, renew_for, charge_tick}
 use Rattle.carv_scheduler_spec.specs.Sound.{member, distinct}
 use Rattle.carv_scheduler_spec.proofs.Laws.SoundFacts.{Sound}
@@ -68,7 +69,7 @@ pub record Changes (b : Board) (i : ℕ) (t : Thread) (q : List ℕ) : Type 0 wh
   pub idle_state : i ≡ idle → (is ready t || is running t) ≡ true
   pub idle_runs : i ≡ idle → b.current ≡ idle → is running t ≡ true
 
-pub change_kept : (b : Board) (i : ℕ) (f : Thread → Thread) (q : List ℕ) (exits : List Exit) → Sound b → Changes b i (f (thread b.threads i)) q
+pub change_kept : (b : Board) (i : ℕ) (f : Thread → Thread) (q : List ℕ) (exits : List (Exit Cause)) → Sound b → Changes b i (f (thread b.threads i)) q
     → length exits ≤ 32
     → Sound (record {
       registry = b.registry;
@@ -128,7 +129,7 @@ join_kept b i f o h busy was_not s budget = change_kept b i f (join b.queue i) b
     o.few_exits
 
 -- the current thread, which is not idle, stops: Blocked or Dead
-pub stop_kept : (b : Board) (s : State) (exits : List Exit) → Sound b → eqb b.current idle ≡ false
+pub stop_kept : (b : Board) (s : State) (exits : List (Exit Cause)) → Sound b → eqb b.current idle ≡ false
     → ready s ≡ false → inactive s ≡ false → length exits ≤ 32
     → Sound (record {
       registry = b.registry;
@@ -155,7 +156,7 @@ stop_kept b s exits o busy unready active = change_kept b b.current (become s) (
 
 -- The log stays short.
 
-pub logged_few : (e : Exit) (l : List Exit) → length l ≤ 32 → length (logged e l) ≤ 32
+pub logged_few : (e : Exit Cause) (l : List (Exit Cause)) → length l ≤ 32 → length (logged e l) ≤ 32
 logged_few e l h = test (eqb (length l) 32)
     (λ a. rw a (simp (length-append, length-drop) (omega (arith, eqb-true (length l) 32 a))))
     (λ a. rw a (simp length-append (below (length l) h (eqb-false (length l) 32 a))))
@@ -164,7 +165,7 @@ logged_few e l h = test (eqb (length l) 32)
     below n h d = omega arith
 
 -- thread i, neither idle nor current, goes
-pub gone_kept : (b : Board) (i : ℕ) (exits : List Exit) → Sound b → eqb i idle ≡ false → eqb i b.current ≡ false
+pub gone_kept : (b : Board) (i : ℕ) (exits : List (Exit Cause)) → Sound b → eqb i idle ≡ false → eqb i b.current ≡ false
     → length exits ≤ 32
     → Sound (record {
       registry = b.registry;

@@ -47,10 +47,10 @@ the_registry = registry.opening 10_000_000 1_000_000
 abbrev pub asleep : Thread
 asleep = paid (Blocked (Sleep 3))
 
-abbrev pub exit : Cause → Exit
+abbrev pub exit : Cause → Exit Cause
 exit cause = record { thread = 9; cause = cause }
 
-abbrev pub the_exits : List Exit
+abbrev pub the_exits : List (Exit Cause)
 the_exits = exit Destroyed ∷ exit Faulted ∷ []
 
 abbrev pub board : List (Row Thread) → (queue : List ℕ) → (current : ℕ) → Board
@@ -86,14 +86,14 @@ abbrev pub with_current : (last : Thread) (current : ℕ) → Board
 with_current last current = board (five (free Ready) asleep (paid Ready) (paid Inactive) last) (0 ∷ 7 ∷ []) current
 
 -- with these exits, and with this registry
-abbrev pub with_exits : List Exit → Board
+abbrev pub with_exits : List (Exit Cause) → Board
 with_exits l = record { registry = the_registry; threads = the_threads; queue = 0 ∷ []; current = 7; switches = 0; exits = l }
 
 abbrev pub with_objects : Registry → Board
 with_objects r = record { registry = r; threads = the_threads; queue = 0 ∷ []; current = 7; switches = 0; exits = the_exits }
 
 -- n exits, and n Inactive threads from i on
-abbrev pub exits : ℕ → List Exit
+abbrev pub exits : ℕ → List (Exit Cause)
 exits zero = []
 exits (suc n) = exit Destroyed ∷ exits n
 

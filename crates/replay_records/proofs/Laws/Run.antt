@@ -123,3 +123,13 @@ module _ {S : Type 0} (replays : List ℕ → S → Bool → S → Type 0) (size
         left = λ h. omega arith;
         ended = λ z. absurd (omega (arith, z));
       }
+
+-- What the tally tells: of bytes that end with a record, how many records there are and how many of them differ; with no difference, that each record agrees and none is cut short.
+module _ (size : ℕ) (differ : List ℕ → (m d : ℕ) → Type 0) (bytes : List ℕ) (t : Tally) (h : Told size differ bytes t) where
+  pub told_whole : cut (length bytes) size ≡ 0 → differ bytes t.calls t.differences
+  told_whole c = let e : t.differences ≡ h.d = omega (arith, h.differences, c) in rw (h.calls, e) h.different
+
+  pub told_none : t.differences ≡ 0 → differ bytes t.calls 0 × (cut (length bytes) size ≡ 0)
+  told_none z =
+      let c : cut (length bytes) size ≡ 0 = omega (arith, h.differences, z) in
+      (rw (← z) (told_whole c), c)

@@ -1,6 +1,7 @@
 -- The laws of `Tally`: one that leaves room for the blocks to come still does with one block more, and then has fewer to come. Assumes nothing.
-use Rattle.std.specs.Prelude.{◌≡◌, Bool, true, false, cond, ℕ, ◌+◌, ◌-◌, ◌/◌, ◌%◌, ◌≤◌, ◌<◌, eqb}
+use Rattle.std.specs.Prelude.{◌≡◌, refl, Bool, true, false, not, cond, ℕ, ◌+◌, ◌-◌, ◌/◌, ◌%◌, ◌≤◌, ◌<◌, eqb}
 use Rattle.std.proofs.Common.{div-le_self, arith, eq-eqb, ne_eqb}
+use mir.Val.{bool_byte}
 use Rattle.replay_records.specs.declared.Tally.{Tally}
 use Rattle.replay_records.specs.Tally.{block_bytes, cut, added, Room}
 
@@ -11,6 +12,15 @@ records_few n size h = omega (arith, h, div-le_self n size)
 one_most : (b : Bool) → cond b 0 1 ≤ 1
 one_most true = omega arith
 one_most false = omega arith
+
+-- the test of a record that is cut short, counted
+pub cut_is : (n size : ℕ) → bool_byte (not (eqb (n % size) 0)) ≡ cut n size
+unfolding cut
+cut_is n size = cases (eqb (n % size) 0)
+  where
+    cases : (b : Bool) → bool_byte (not b) ≡ cond b 0 1
+    cases true = refl
+    cases false = refl
 
 -- the tally as it is added to, where the block is full and where it isn't
 pub added_full : (t : Tally) (n size d k : ℕ) → k ≡ cut n size → n ≡ block_bytes size

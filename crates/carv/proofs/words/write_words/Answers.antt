@@ -7,4 +7,4 @@ pub returns : goal.returns
 returns c =
     let z : 0 + length c.args.words.now ≡ length c.args.words.now = omega arith in
     ap (λ (l : List ℕ). l ++ drop (length c.args.words.now) c.args.out.now) c.copy_from_slice.ensures.after
-    ∙ sym (rw z at (sets-eq c.args.words.now c.args.out.now 0 (omega (arith, c.requires.out_len, c.requires.words_bound))))
+    ∙ sym (rw z at (sets-eq c.args.words.now c.args.out.now 0 (omega (arith, c.requires))))

@@ -1,14 +1,7 @@
 -- `carv_objects::area::find` meets its contract. Assumes nothing.
-use Rattle.carv_objects.specs.Area.{table}
-use Rattle.carv_objects.specs.Laws.AreaSteps.{table_keyed, found_is}
+use Rattle.carv_objects.specs.Laws.AreaSteps.{found_is}
 use Rattle.carv_objects.proofs.area.find.Goals as goal
 
-pub invariant_of-find : goal.invariant_of-find
-unfolding table
-invariant_of-find c =
-    record { keyed = table_keyed _ c.requires }
-
 pub returns : goal.returns
-unfolding table
 returns c =
-    found_is _ c.requires _ _ c.find.ensures
+    found_is _ c.requires _ c.objects.ensures _ _ c.find.ensures

@@ -6,6 +6,6 @@ pub find-requires : goal.find-requires
 find-requires c =
     area_formed _ c.requires
 
-pub entry_at-e-requires-clause-well_formed : goal.entry_at-e-requires-clause-well_formed
-entry_at-e-requires-clause-well_formed c =
+pub entry_at-payer-requires-clause-well_formed : goal.entry_at-payer-requires-clause-well_formed
+entry_at-payer-requires-clause-well_formed c =
     area_formed _ c.requires

@@ -44,5 +44,5 @@ returns c =
     let z = create_done c.args.code c.args.payer c.args.backing (decode c.args.a.now) (listed_named _ c.in_ok-kind.kind k) (said_so _ _ c.has_room.ensures (ap not c.if-not-has_room.false)) b q (creatable_named _ c.in_ok-kind.kind k _ (said_so _ _ c.is_creatable.ensures (ap not c.if-not-is_creatable.false)))
     (backing_named _ c.in_ok-kind.kind k _ _ (said_so _ _ c.has_backing.ensures (ap not c.if-not-has_backing.false))) in
     answered _ _ c.requires _ z _ refl (ap (λ (x : ℕ). Some (id x)) c.store.ensures.0) _
-    (leaves_as _ _ _ (stored_named (decode c.args.a.now) _ _ _ c.args.code c.in_ok-kind.kind k h _ _ c.account_at-account.ensures e _ n) c.store.ensures.1)
+    (leaves_as _ _ _ (stored_named (decode c.args.a.now) _ _ _ c.args.code c.in_ok-kind.kind k h _ _ c.account_at-account.ensures e _ n) (rw c.plain.ensures at c.store.ensures.1))
     (kept_at _ _ (create_kept c.args.code c.args.payer c.args.backing (decode c.args.a.now) (area_sound _ c.requires)) z))

@@ -39,5 +39,5 @@ returns c =
     (let k = named_some c.args.code c.from_code.result c.from_code.ensures c.in_ok-kind.kind (met c.ok_or.ensures.ok_part c.in_ok-kind.was) in
     let z = insert_done c.args.code c.args.payer c.args.bytes (decode c.args.a.now) (listed_named _ c.in_ok-kind.kind k) (other_named _ c.in_ok-kind.kind k (sym c.is_budget.ensures ∙ c.if-is_budget.false)) (said_so _ _ c.has_room.ensures (ap not c.if-not-has_room.false)) (budget_here (decode c.args.a.now) _ _ c.find_budget.ensures _ (met c.ok_or-2.ensures.ok_part c.in_ok-i.was)).1 (free_here (decode c.args.a.now) _ _ (budget_here (decode c.args.a.now) _ _ c.find_budget.ensures _ (met c.ok_or-2.ensures.ok_part c.in_ok-i.was)).0 _ c.account_at-account.ensures _ _ (booked_yes _ _ _ c.charge.ensures _ (met c.ok_or-3.ensures.ok_part c.in_ok-paid.was)).0) in
     answered _ _ c.requires _ z _ refl (ap (λ (x : ℕ). Some (id x)) c.store.ensures.0) _
-    (leaves_as _ _ _ (stored_named (decode c.args.a.now) _ _ _ c.args.code c.in_ok-kind.kind k (budget_here (decode c.args.a.now) _ _ c.find_budget.ensures _ (met c.ok_or-2.ensures.ok_part c.in_ok-i.was)).0 _ _ c.account_at-account.ensures (booked_yes _ _ _ c.charge.ensures _ (met c.ok_or-3.ensures.ok_part c.in_ok-paid.was)).1 _ refl) c.store.ensures.1)
+    (leaves_as _ _ _ (stored_named (decode c.args.a.now) _ _ _ c.args.code c.in_ok-kind.kind k (budget_here (decode c.args.a.now) _ _ c.find_budget.ensures _ (met c.ok_or-2.ensures.ok_part c.in_ok-i.was)).0 _ _ c.account_at-account.ensures (booked_yes _ _ _ c.charge.ensures _ (met c.ok_or-3.ensures.ok_part c.in_ok-paid.was)).1 _ refl) (rw c.plain.ensures at c.store.ensures.1))
     (kept_at _ _ (insert_kept c.args.code c.args.payer c.args.bytes (decode c.args.a.now) (area_sound _ c.requires)) z))

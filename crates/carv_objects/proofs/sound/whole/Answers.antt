@@ -9,7 +9,9 @@ use Rattle.carv_objects.proofs.sound.whole.Goals as goal
 
 pub loop-i-init : goal.loop-i-init
 loop-i-init c =
-    walk_none _ _
+    let d = c.default-figures.ensures in
+    let z : c.default-figures.result ≡ record { used = 0; memory = 0; cpu = 0 } = λ i. record { used = d.0 i; memory = d.1.0 i; cpu = d.1.1 i } in
+    rw z (walk_none _ _)
 
 pub returns : goal.returns
 returns c =

@@ -29,19 +29,19 @@ overflow_cast-places c =
 
 pub overflow_add-sums : goal.overflow_add-sums
 overflow_add-sums c =
-    record { fits = used_fits c.args.a.now c.requires.a_value c.args.b c.args.j c.requires.here c.requires.b_value (λ k. omega (arith, c.shared_slice_known-1.given k)) _ _ _ _ _ (passes (decode c.args.a.now) c.args.b c.loop-i.i (omega (arith, c.loop-i.invariant.0, c.loop-i-test.true)) c.loop-i.marks c.loop-i.invariant.1 (omega (arith, c.loop-i.invariant.0, c.loop-i-test.true, (area_sound _ c.requires.a_value).few)) _ c.is_row_within-inside.ensures _ c.part-p.ensures _ _ _ c.loop-i.invariant.2) }
+    record { fits = used_fits c.args.a.now c.requires.a_value c.args.b c.args.j c.requires.here c.requires.b_value (λ k. omega (arith, c.shared_slice_known-1.given k)) _ _ _ _ _ (passes (decode c.args.a.now) c.args.b c.loop-i.i (omega (arith, c.loop-i.invariant.0, c.loop-i-test.true)) c.loop-i.marks c.loop-i.invariant.1 (omega (arith, c.loop-i.invariant.0, c.loop-i-test.true, (area_sound _ c.requires.a_value).few)) _ c.is_next_within-inside.ensures _ c.part-p.ensures _ _ _ c.loop-i.invariant.2) }
 
 pub overflow_add-sums-in-loop-i : goal.overflow_add-sums-in-loop-i
 overflow_add-sums-in-loop-i c =
-    record { fits = free_fits c.args.a.now c.requires.a_value c.args.b c.args.j c.requires.here c.requires.b_value (λ k. omega (arith, c.shared_slice_known-1.given k)) _ _ _ _ _ (passes (decode c.args.a.now) c.args.b c.loop-i.i (omega (arith, c.loop-i.invariant.0, c.loop-i-test.true)) c.loop-i.marks c.loop-i.invariant.1 (omega (arith, c.loop-i.invariant.0, c.loop-i-test.true, (area_sound _ c.requires.a_value).few)) _ c.is_row_within-inside.ensures _ c.part-p.ensures _ _ _ c.loop-i.invariant.2) }
+    record { fits = free_fits c.args.a.now c.requires.a_value c.args.b c.args.j c.requires.here c.requires.b_value (λ k. omega (arith, c.shared_slice_known-1.given k)) _ _ _ _ _ (passes (decode c.args.a.now) c.args.b c.loop-i.i (omega (arith, c.loop-i.invariant.0, c.loop-i-test.true)) c.loop-i.marks c.loop-i.invariant.1 (omega (arith, c.loop-i.invariant.0, c.loop-i-test.true, (area_sound _ c.requires.a_value).few)) _ c.is_next_within-inside.ensures _ c.part-p.ensures _ _ _ c.loop-i.invariant.2) }
 
 pub overflow_add-sums-in-loop-i-2 : goal.overflow_add-sums-in-loop-i-2
 overflow_add-sums-in-loop-i-2 c =
-    record { fits = left_fits c.args.a.now c.requires.a_value c.args.b c.args.j c.requires.here c.requires.b_value (λ k. omega (arith, c.shared_slice_known-1.given k)) _ _ _ _ _ (passes (decode c.args.a.now) c.args.b c.loop-i.i (omega (arith, c.loop-i.invariant.0, c.loop-i-test.true)) c.loop-i.marks c.loop-i.invariant.1 (omega (arith, c.loop-i.invariant.0, c.loop-i-test.true, (area_sound _ c.requires.a_value).few)) _ c.is_row_within-inside.ensures _ c.part-p.ensures _ _ _ c.loop-i.invariant.2) }
+    record { fits = left_fits c.args.a.now c.requires.a_value c.args.b c.args.j c.requires.here c.requires.b_value (λ k. omega (arith, c.shared_slice_known-1.given k)) _ _ _ _ _ (passes (decode c.args.a.now) c.args.b c.loop-i.i (omega (arith, c.loop-i.invariant.0, c.loop-i-test.true)) c.loop-i.marks c.loop-i.invariant.1 (omega (arith, c.loop-i.invariant.0, c.loop-i-test.true, (area_sound _ c.requires.a_value).few)) _ c.is_next_within-inside.ensures _ c.part-p.ensures _ _ _ c.loop-i.invariant.2) }
 
 pub loop-i-preserved : goal.loop-i-preserved
 loop-i-preserved c =
-    (c.loop-i.invariant.0, length-set c.loop-i.marks c.loop-i.i c.is_row_within-inside.result ∙ c.loop-i.invariant.1, passes (decode c.args.a.now) c.args.b c.loop-i.i (omega (arith, c.loop-i.invariant.0, c.loop-i-test.true)) c.loop-i.marks c.loop-i.invariant.1 (omega (arith, c.loop-i.invariant.0, c.loop-i-test.true, (area_sound _ c.requires.a_value).few)) _ c.is_row_within-inside.ensures _ c.part-p.ensures _ _ _ c.loop-i.invariant.2)
+    (c.loop-i.invariant.0, length-set c.loop-i.marks c.loop-i.i c.is_next_within-inside.result ∙ c.loop-i.invariant.1, passes (decode c.args.a.now) c.args.b c.loop-i.i (omega (arith, c.loop-i.invariant.0, c.loop-i-test.true)) c.loop-i.marks c.loop-i.invariant.1 (omega (arith, c.loop-i.invariant.0, c.loop-i-test.true, (area_sound _ c.requires.a_value).few)) _ c.is_next_within-inside.ensures _ c.part-p.ensures _ _ _ c.loop-i.invariant.2)
 
 pub returns : goal.returns
 returns c =

@@ -20,13 +20,9 @@ pub returns-in_err-wait : goal.returns-in_err-wait
 returns-in_err-wait c =
     refused_by _ _ c.requires Code (block_unlisted c.args.kind c.args.number (decode c.args.a.now) (wait_unlisted c.args.kind c.args.number c.from_code.result c.from_code.ensures (missed c.ok_or.ensures.ok_part c.in_err-wait.was))) _ (grind (arith, common_steps))
 
-pub current_place-i-requires : goal.current_place-i-requires
-current_place-i-requires c =
-    c.requires
-
-pub state_at-requires : goal.state_at-requires
-state_at-requires c =
-    record { well_formed = area_formed _ c.requires; i_in_bounds = c.current_place-i.ensures.within }
+pub state_at-requires-clause-well_formed : goal.state_at-requires-clause-well_formed
+state_at-requires-clause-well_formed c =
+    area_formed _ c.requires
 
 pub returns-then-ne : goal.returns-then-ne
 returns-then-ne c =
@@ -39,9 +35,9 @@ pub current-requires : goal.current-requires
 current-requires c =
     (area_formed _ c.requires).size
 
-pub set_state-requires : goal.set_state-requires
-set_state-requires c =
-    record { well_formed = area_formed _ c.requires; i_in_bounds = c.current_place-i.ensures.within }
+pub set_state-requires-clause-well_formed : goal.set_state-requires-clause-well_formed
+set_state-requires-clause-well_formed c =
+    area_formed _ c.requires
 
 pub returns : goal.returns
 returns c =

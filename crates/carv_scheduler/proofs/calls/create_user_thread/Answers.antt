@@ -5,7 +5,7 @@ use Rattle.carv_scheduler_spec.proofs.Laws.Kept.{create_user_thread_kept}
 use Rattle.carv_scheduler.specs.Laws.Formed.{leaves_as}
 use Rattle.carv_scheduler.specs.Laws.AreaLaws.{area_formed, area_sound}
 use Rattle.carv_scheduler.specs.Laws.Calls.{refused, answered}
-use Rattle.carv_scheduler.specs.Laws.CallSteps.{new_id, created_is}
+use Rattle.carv_scheduler.specs.Laws.CallSteps.{created_is}
 use Rattle.carv_scheduler_spec.proofs.Laws.Questions.{create_known, create_first, create_idle, create_full, create_stack, create_done}
 use Rattle.carv_scheduler.specs.Area.{decode}
 use Rattle.carv_scheduler.proofs.calls.create_user_thread.Goals.{then-has_thread-via-then-has_thread, then-has_thread-via-else-has_thread+then-id-eq-FIRST, then-has_thread-via-else-has_thread+else-id-eq-FIRST+then-id-eq-IDLE}
@@ -35,9 +35,9 @@ pub returns-then-not-stack : goal.returns-then-not-stack
 returns-then-not-stack c =
     refused _ _ c.requires Backing (create_stack c.args.id c.args.budget c.args.stack (decode c.args.a.now) (sym c.has_thread.ensures ∙ c.if-has_thread.false) c.if-id-eq-FIRST.false c.if-id-eq-IDLE.false (rw (← c.thread_count.ensures) c.if-thread_count-ge-PLACES.false) c.if-not-stack.true)
 
-pub insert_thread-requires : goal.insert_thread-requires
-insert_thread-requires c =
-    record { well_formed = area_formed _ c.requires; new = new_id (decode c.args.a.now) c.args.id _ (sym c.has_thread.ensures ∙ c.if-has_thread.false) c.thread_count.ensures c.if-thread_count-ge-PLACES.false (omega (arith, c.ranges.id)) }
+pub insert_thread-requires-clause-well_formed : goal.insert_thread-requires-clause-well_formed
+insert_thread-requires-clause-well_formed c =
+    area_formed _ c.requires
 
 pub returns : goal.returns
 returns c =

@@ -26,9 +26,9 @@ pub returns-in_default : goal.returns-in_default
 returns-in_default c =
     read_serves _ _ c.requires _ (blocked_missing c.args.id c.args.kind c.args.number (decode c.args.a.now) (wait_known c.args.kind c.args.number c.from_code.result c.from_code.ensures _ (met c.ok_or.ensures.ok_part c.in_ok-wait.was)) (gone_has _ _ (found_gone (decode c.args.a.now).threads _ _ c.find_thread.ensures c.in_default.is))) refl _ refl refl
 
-pub state_at-requires : goal.state_at-requires
-state_at-requires c =
-    record { well_formed = area_formed _ c.requires; i_in_bounds = (found_here (decode c.args.a.now).threads _ _ c.find_thread.ensures _ c.in-Some.is).within }
+pub state_at-requires-clause-well_formed : goal.state_at-requires-clause-well_formed
+state_at-requires-clause-well_formed c =
+    area_formed _ c.requires
 
 pub returns : goal.returns
 returns c =

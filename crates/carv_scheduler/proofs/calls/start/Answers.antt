@@ -24,9 +24,9 @@ pub returns-in_err-i : goal.returns-in_err-i
 returns-in_err-i c =
     refused_by _ _ c.requires Missing (start_missing c.args.id c.args.space c.args.cspace c.args.root c.args.context (decode c.args.a.now) (gone_has _ _ (found_gone (decode c.args.a.now).threads _ _ c.find_thread.ensures (missed c.ok_or.ensures.ok_part c.in_err-i.was)))) _ (grind (arith, common_steps))
 
-pub thread_at-t-requires : goal.thread_at-t-requires
-thread_at-t-requires c =
-    record { well_formed = area_formed _ c.requires; i_in_bounds = (found_here (decode c.args.a.now).threads _ _ c.find_thread.ensures _ (met c.ok_or.ensures.ok_part c.in_ok-i.was)).within }
+pub thread_at-t-requires-clause-well_formed : goal.thread_at-t-requires-clause-well_formed
+thread_at-t-requires-clause-well_formed c =
+    area_formed _ c.requires
 
 pub returns-then-ne : goal.returns-then-ne
 returns-then-ne c =

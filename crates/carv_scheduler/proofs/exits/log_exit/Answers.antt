@@ -2,9 +2,9 @@
 use Rattle.carv_scheduler.specs.Laws.ExitSteps.{logged_room, logged_left}
 use Rattle.carv_scheduler.proofs.exits.log_exit.Goals as goal
 
-pub add_exit-requires : goal.add_exit-requires
-add_exit-requires c =
-    record { well_formed = c.make_room.ensures.formed; a_len_bound = logged_room c.args.a.now _ c.requires c.make_room.ensures }
+pub add_exit-requires-clause-a_len_bound : goal.add_exit-requires-clause-a_len_bound
+add_exit-requires-clause-a_len_bound c =
+    logged_room c.args.a.now _ c.requires c.make_room.ensures
 
 pub returns : goal.returns
 returns c =

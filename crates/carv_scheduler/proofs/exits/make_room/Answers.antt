@@ -1,10 +1,6 @@
 -- `carv_scheduler::exits::make_room` meets its contract. Assumes nothing.
-use Rattle.carv_scheduler.specs.Laws.ExitSteps.{full_some, room_made, room_there}
+use Rattle.carv_scheduler.specs.Laws.ExitSteps.{room_made, room_there}
 use Rattle.carv_scheduler.proofs.exits.make_room.Goals as goal
-
-pub drop_oldest-requires : goal.drop_oldest-requires
-drop_oldest-requires c =
-    record { well_formed = c.requires; exits_nonzero = full_some c.args.a.now c.requires _ c.exit_count.ensures c.if-exit_count-eq-PLACES.true }
 
 pub returns-then-exit_count-eq-PLACES : goal.returns-then-exit_count-eq-PLACES
 returns-then-exit_count-eq-PLACES c =

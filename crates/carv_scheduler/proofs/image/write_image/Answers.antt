@@ -6,10 +6,6 @@ pub returns-then-image-ne-BYTES : goal.returns-then-image-ne-BYTES
 returns-then-image-ne-BYTES c =
     image_refused c.args.image.now c.if-image-ne-BYTES.true
 
-pub fill_image-requires : goal.fill_image-requires
-fill_image-requires c =
-    c.if-image-ne-BYTES.false
-
 pub returns : goal.returns
 returns c =
     image_filled c.args.image.now c.if-image-ne-BYTES.false _ c.fill_image.ensures

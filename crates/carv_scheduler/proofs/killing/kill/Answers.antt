@@ -25,21 +25,17 @@ pub returns-in_err-i : goal.returns-in_err-i
 returns-in_err-i c =
     missing_served c.args.a.now c.requires c.args.id c.args.cause (cause_known c.args.cause c.from_code.result c.from_code.ensures _ (met c.ok_or.ensures.ok_part c.in_ok-cause.was)) c.if-id-eq-IDLE.false (gone_has _ _ (found_gone (decode c.args.a.now).threads _ _ c.find_thread.ensures (missed c.ok_or-2.ensures.ok_part c.in_err-i.was))) _ (grind (arith, common_steps))
 
-pub state_at-state-requires : goal.state_at-state-requires
-state_at-state-requires c =
-    record { well_formed = area_formed _ c.requires; i_in_bounds = (found_here (decode c.args.a.now).threads _ _ c.find_thread.ensures _ (met c.ok_or-2.ensures.ok_part c.in_ok-i.was)).within }
+pub state_at-state-requires-clause-well_formed : goal.state_at-state-requires-clause-well_formed
+state_at-state-requires-clause-well_formed c =
+    area_formed _ c.requires
 
-pub end_thread-requires : goal.end_thread-requires
-end_thread-requires c =
-    record { well_formed = area_formed _ c.requires; here = found_here (decode c.args.a.now).threads _ _ c.find_thread.ensures _ (met c.ok_or-2.ensures.ok_part c.in_ok-i.was) }
+pub end_thread-requires-clause-well_formed : goal.end_thread-requires-clause-well_formed
+end_thread-requires-clause-well_formed c =
+    area_formed _ c.requires
 
-pub leave_queue-requires : goal.leave_queue-requires
-leave_queue-requires c =
-    record { well_formed = c.end_thread.ensures.formed; a_value = kill_distinct c.args.a.now c.requires c.args.id c.args.cause (cause_known c.args.cause c.from_code.result c.from_code.ensures _ (met c.ok_or.ensures.ok_part c.in_ok-cause.was)) c.if-id-eq-IDLE.false _ c.end_thread.ensures }
-
-pub log_exit-requires : goal.log_exit-requires
-log_exit-requires c =
-    c.leave_queue.ensures.formed
+pub leave_queue-requires-clause-a_value : goal.leave_queue-requires-clause-a_value
+leave_queue-requires-clause-a_value c =
+    kill_distinct c.args.a.now c.requires c.args.id c.args.cause (cause_known c.args.cause c.from_code.result c.from_code.ensures _ (met c.ok_or.ensures.ok_part c.in_ok-cause.was)) c.if-id-eq-IDLE.false _ c.end_thread.ensures
 
 pub returns : goal.returns
 returns c =

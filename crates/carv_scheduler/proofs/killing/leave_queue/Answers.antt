@@ -7,9 +7,9 @@ pub returns-in_default : goal.returns-in_default
 returns-in_default c =
     queue_stays c.args.a.now _ c.requires.well_formed (queue_gone (decode c.args.a.now).queue _ _ c.queue_find.ensures c.in_default.is)
 
-pub queue_pull-requires : goal.queue_pull-requires
-queue_pull-requires c =
-    record { well_formed = c.requires.well_formed; i_in_bounds = (queue_here (decode c.args.a.now).queue _ _ c.queue_find.ensures _ c.in-Some.is).0 }
+pub queue_pull-requires-clause-i_in_bounds : goal.queue_pull-requires-clause-i_in_bounds
+queue_pull-requires-clause-i_in_bounds c =
+    (queue_here (decode c.args.a.now).queue _ _ c.queue_find.ensures _ c.in-Some.is).0
 
 pub returns-in-Some : goal.returns-in-Some
 returns-in-Some c =

@@ -5,4 +5,4 @@ use Rattle.carv_scheduler.proofs.opening.open_registry.Goals as goal
 
 pub returns : goal.returns
 returns c =
-    registry_opened c.args.cpu c.args.memory c.args.a.now _ _ c.requires.a_len (search rules) c.requires.cpu_bound c.open-opened.ensures
+    registry_opened c.args.cpu c.args.memory c.args.a.now _ _ c.requires.a_len (search rules) c.requires.cpu_bound c.open.ensures

@@ -2,9 +2,9 @@
 use Rattle.carv_scheduler.specs.Laws.Planning.{chooses_within, chooses_at, chooses_idle}
 use Rattle.carv_scheduler.proofs.planning.choose.Goals as goal
 
-pub queue_pull-id-requires : goal.queue_pull-id-requires
-queue_pull-id-requires c =
-    record { well_formed = c.walk.ensures.area.formed; i_in_bounds = chooses_within _ _ _ _ c.walk.ensures _ _ c.in-Some.is }
+pub queue_pull-id-requires-clause-i_in_bounds : goal.queue_pull-id-requires-clause-i_in_bounds
+queue_pull-id-requires-clause-i_in_bounds c =
+    chooses_within _ _ _ _ c.walk.ensures _ _ c.in-Some.is
 
 pub returns-in-Some : goal.returns-in-Some
 returns-in-Some c =

@@ -10,10 +10,6 @@ pub returns-then-not-killed : goal.returns-then-not-killed
 returns-then-not-killed c =
     leaves_not _ c.requires c.args.id c.args.killed (ap not c.if-not-killed.true)
 
-pub remove_thread-requires : goal.remove_thread-requires
-remove_thread-requires c =
-    record { well_formed = c.requires; i_in_bounds = (found_here (decode c.args.a.now).threads c.args.id _ c.find_thread.ensures _ c.in-Some.is).within }
-
 pub returns-in-Some : goal.returns-in-Some
 returns-in-Some c =
     leaves_at _ c.requires c.args.id c.args.killed (ap not c.if-not-killed.false) _ (found_here (decode c.args.a.now).threads c.args.id _ c.find_thread.ensures _ c.in-Some.is) _ c.remove_thread.ensures

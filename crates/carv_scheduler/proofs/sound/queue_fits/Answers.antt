@@ -10,7 +10,7 @@ loop-j-init c =
 
 pub turn-requires : goal.turn-requires
 turn-requires c =
-    record { keyed = c.requires.keyed; t_bound = c.requires.t_bound; q_len = c.requires.q_len; j_bound = (omega arith, omega arith); places_len = c.requires.places_len; walk = c.loop-j.invariant.1 }
+    record { t_bound = c.requires.t_bound; j_bound = (omega arith, omega arith); walk = c.loop-j.invariant.1 }
 
 pub returns-then-not-turn : goal.returns-then-not-turn
 returns-then-not-turn c =

@@ -5,4 +5,4 @@ use Rattle.carv_scheduler.specs.Laws.SoundWalk.{Walk}
 use Rattle.carv_scheduler.proofs.sound.queue_fits.Given as goal
 
 abbrev pub invariant-loop-j : goal.invariant-loop-j
-invariant-loop-j l = (l.j ≤ l.m) × Walk (words l.t) (words l.q) l.j l.marks
+invariant-loop-j l = (l.j ≤ l.m) × Walk (words l.table.bytes.now) (words l.q) l.j l.marks

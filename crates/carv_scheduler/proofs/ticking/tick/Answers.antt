@@ -11,10 +11,6 @@ pub returns-then-n-gt-LAST_TICK : goal.returns-then-n-gt-LAST_TICK
 returns-then-n-gt-LAST_TICK c =
     refused (tick c.args.n) c.args.a.now c.requires Tick (tick_late c.args.n (decode c.args.a.now) c.if-n-gt-LAST_TICK.true)
 
-pub wake_sleepers-requires : goal.wake_sleepers-requires
-wake_sleepers-requires c =
-    c.account.ensures.sound
-
 pub returns : goal.returns
 returns c =
     ticks c.args.n c.args.a.now c.requires (omega (arith, c.if-n-gt-LAST_TICK.false)) _ _ c.account.ensures c.wake_sleepers.ensures

@@ -1,10 +1,13 @@
 -- `replay_board::record::is_recorded` meets its contract. Assumes nothing.
-use Rattle.std.proofs.Common.{arith}
-use Rattle.replay_board.specs.Laws.{as_recorded, other_word}
+use Rattle.std.proofs.Common.{◌≡◌, refl, get_or, rules, tests}
+use Rattle.std.proofs.lemmas.Iterator.{YieldsList-from_range, cases_from_all}
+use Rattle.replay_board.specs.Record.{recorded_word}
+use Rattle.replay_board.specs.Laws.{words_tell}
 use Rattle.replay_board.proofs.record.is_recorded.Goals as goal
 
-pub returns-then-word-recorded_word : goal.returns-then-word-recorded_word
-returns-then-word-recorded_word c = other_word _ _ _ _ c.loop-i.i _ (omega (arith, c.loop-i-test.true, c.told-out)) c.recorded_word.ensures c.if-word-recorded_word.true
-
-pub returns : goal.returns
-returns c = as_recorded _ _ _ _ _ c.get.ensures c.if-number-get.false c.told-out (λ j b. c.loop-i.invariant j (omega (arith, b, c.loop-i-test.false, c.told-out)))
+pub returns-then-number-get : goal.returns-then-number-get
+returns-then-number-get c =
+    let out = c.args.out.now in
+    let bytes = c.args.bytes.now in
+    words_tell bytes 0 out _ _ c.get.ensures c.if-number-get.true c.told-out c.all.result
+    (cases_from_all _ _ _ (λ i. get_or out i 0 ≡ recorded_word bytes 0 i) (λ i. get_or out i 0 ≡ recorded_word bytes 0 i → ⊥) c.all.ensures.ran (YieldsList-from_range 0 20 20 refl refl) (λ x q k. search (rules, tests)) (λ x q k. search (rules, tests)))

@@ -1,5 +1,0 @@
--- `carv_objects::subtree::is_within` meets its contract. The measure is the id. Assumes nothing.
-use Rattle.carv_objects.proofs.subtree.+is_within.Given as goal
-
-abbrev pub decreases-is_within : goal.decreases-is_within
-decreases-is_within l = l.id

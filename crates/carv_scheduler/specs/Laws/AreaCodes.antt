@@ -1,0 +1,110 @@
+-- "Every code is a listed one", of a board's area: words of a thread or of an exit that are no listed codes make it unsound, and a sound area has the codes of each thread's
+-- state, budget and space and of each exit's cause. Assumes nothing.
+use Rattle.std.specs.Prelude.{◌≡◌, refl, true, false, List, ◌∷◌, ℕ, ◌+◌, ◌*◌, ◌<◌, suc, length, slice_index, slice_index_or, set, Some}
+use Rattle.std.proofs.Common.{sym, ◌∙◌, arith}
+use Rattle.std.proofs.lemmas.Bool.{false≢true}
+use Rattle.carv_area.specs.Lists.{tab}
+use Rattle.carv_area.specs.Laws.Table.{test}
+use Rattle.carv_area.specs.Words.{words}
+use Rattle.carv_area.specs.Rows.{flat}
+use Rattle.carv_area.specs.Laws.Rows.{holds_word}
+use Rattle.carv_scheduler_spec.specs.declared.State.TheVariants.{Inactive}
+use Rattle.carv_scheduler_spec.specs.declared.Thread.{Thread}
+use Rattle.carv_scheduler_spec.specs.Scheduler.{in_spaces}
+use Rattle.carv_scheduler_spec.specs.Codes.{is_word, state_word, kind_word, number_word, id_word, space_word, cspace_word, root_word, cause_word}
+use Rattle.carv_scheduler_spec.proofs.Laws.Unsound.{record_with, the_threads, the_exits, with_8}
+use Rattle.carv_scheduler.specs.Area.{threads_part, exits_part, thread_fields, exit_fields, thread_listed, cause_listed_at, threads_listed, exits_listed, decode, sound_area}
+use Rattle.carv_scheduler.specs.Laws.Rows.{no_row, wide, no_exit, wide_exit}
+use Rattle.carv_scheduler.specs.Laws.Listed.{each_out, cause_words}
+use Rattle.carv_scheduler.specs.Laws.AreaLaws.{asked_told, area_formed}
+
+pub unlisted_thread_fails : (a : List ℕ) (i : ℕ) → i < slice_index (words (threads_part a)) 0 → thread_listed (words (threads_part a)) i ≡ false → sound_area a ≡ false
+unfolding threads_listed
+unlisted_thread_fails a i b h =
+    let l = words (threads_part a) in
+    test (sound_area a) (λ s. absurd (false≢true (sym h ∙ each_out (thread_listed l) (slice_index l 0) (λ k. k) (asked_told a s).threads_listed i b))) (λ s. s)
+
+pub unlisted_cause_fails : (a : List ℕ) (i : ℕ) → i < slice_index (words (exits_part a)) 0 → cause_listed_at (words (exits_part a)) i ≡ false → sound_area a ≡ false
+unlisted_cause_fails a i b h =
+    test (sound_area a) (λ s. absurd (false≢true (sym h ∙ cause_words (words (exits_part a)) (asked_told a s).exits_listed i b))) (λ s. s)
+
+-- the words l have, for the thread at place i, the codes of the state, budget and space of t
+pub record StoredCodes (l : List ℕ) (i : ℕ) (t : Thread) : Type 0 where
+  pub state : slice_index l (i * 21 + 2) ≡ state_word t.state
+  pub kind : slice_index l (i * 21 + 3) ≡ kind_word t.state
+  pub number : slice_index l (i * 21 + 4) ≡ number_word t.state
+  pub is_budget : slice_index l (i * 21 + 5) ≡ is_word t.budget
+  pub budget : slice_index l (i * 21 + 6) ≡ id_word t.budget
+  pub is_space : slice_index l (i * 21 + 7) ≡ is_word t.spaces
+  pub space : slice_index l (i * 21 + 8) ≡ space_word t.spaces
+  pub cspace : slice_index l (i * 21 + 9) ≡ cspace_word t.spaces
+  pub root : slice_index l (i * 21 + 10) ≡ root_word t.spaces
+
+pub stored_state : (a : List ℕ) → sound_area a ≡ true → (i : ℕ) → i < length (decode a).threads → StoredCodes (words (threads_part a)) i (slice_index_or (decode a).threads i no_row).it
+stored_state a s i b =
+    let h = (area_formed a s).threads.holds in
+    let w : (j : ℕ) → j < 21 → slice_index (words (threads_part a)) (i * 21 + suc j) ≡ slice_index (thread_fields (slice_index_or (decode a).threads i no_row)) j =
+    λ j l. holds_word thread_fields 21 wide (words (threads_part a)) (decode a).threads h i j no_row b l in
+    record {
+      state = w 1 (omega arith);
+      kind = w 2 (omega arith);
+      number = w 3 (omega arith);
+      is_budget = w 4 (omega arith);
+      budget = w 5 (omega arith);
+      is_space = w 6 (omega arith);
+      space = w 7 (omega arith);
+      cspace = w 8 (omega arith);
+      root = w 9 (omega arith);
+    }
+
+pub stored_cause : (a : List ℕ) → sound_area a ≡ true → (i : ℕ) → i < length (decode a).exits → slice_index (words (exits_part a)) (i * 2 + 2) ≡ cause_word (slice_index_or (decode a).exits i no_exit).cause
+stored_cause a s i b = holds_word exit_fields 2 wide_exit (words (exits_part a)) (decode a).exits (area_formed a s).exits.holds i 1 no_exit b (omega arith)
+
+-- The words of carv_scheduler_spec's sound board of five threads and two exits, with n for word o. Its threads 0, 5 and 8 are the rows that begin at words 1, 22 and 64; thread 0 is
+-- Ready and has no budget, thread 5 sleeps, thread 8 is Inactive and has one. With `in_space`, thread 8 has a space.
+
+abbrev pub with_word : (o n : ℕ) → List ℕ
+with_word o n = set (5 ∷ flat thread_fields the_threads) o n
+
+abbrev pub in_space : (o n : ℕ) → List ℕ
+in_space o n = set (5 ∷ flat thread_fields (with_8 (record_with Inactive (Some 1) (Some (in_spaces 20 30 40)))).threads) o n
+
+abbrev pub with_cause : (o n : ℕ) → List ℕ
+with_cause o n = set (2 ∷ flat exit_fields the_exits) o n
+
+abbrev pub Listed : List ℕ → Type 0
+Listed l = threads_listed l ≡ true
+
+abbrev pub Unlisted : List ℕ → Type 0
+Unlisted l = threads_listed l ≡ false
+
+pub record CodeWords : Type 0 where
+  -- the state of thread 8: 0, the first and the last code, and one more
+  pub states : Unlisted (with_word 65 0) × Listed (with_word 65 1) × Listed (with_word 65 5) × Unlisted (with_word 65 6)
+  -- the kind of thread 5's wait
+  pub waits : Unlisted (with_word 24 0) × Listed (with_word 24 1) × Listed (with_word 24 5) × Unlisted (with_word 24 6)
+  -- a Ready thread has no wait, nor a wait's number
+  pub no_waits : Unlisted (with_word 3 5) × Unlisted (with_word 4 3)
+  -- whether there is a budget; where there is none, no id
+  pub budgets : Unlisted (with_word 68 0) × Listed (with_word 68 1) × Unlisted (with_word 68 2)
+  pub no_budgets : Listed (with_word 6 0) × Unlisted (with_word 6 1)
+  -- whether there is a space; where there is none, no space, cspace or root
+  pub spaces : Unlisted (in_space 70 0) × Listed (in_space 70 1) × Unlisted (in_space 70 2)
+  pub no_spaces : Listed (with_word 70 0) × Unlisted (with_word 71 20) × Unlisted (with_word 72 30) × Unlisted (with_word 73 40)
+  -- the causes, of the first exit and of the second
+  pub causes : (exits_listed (with_cause 2 0) ≡ false) × (exits_listed (with_cause 2 1) ≡ true) × (exits_listed (with_cause 2 2) ≡ true) × (exits_listed (with_cause 2 3) ≡ false)
+  pub each_cause : (exits_listed (with_cause 4 1) ≡ true) × (exits_listed (with_cause 4 0) ≡ false)
+
+pub code_words_hold : CodeWords
+unfolding threads_listed exits_listed tab flat
+code_words_hold = record {
+  states = (refl, refl, refl, refl);
+  waits = (refl, refl, refl, refl);
+  no_waits = (refl, refl);
+  budgets = (refl, refl, refl);
+  no_budgets = (refl, refl);
+  spaces = (refl, refl, refl);
+  no_spaces = (refl, refl, refl, refl);
+  causes = (refl, refl, refl, refl);
+  each_cause = (refl, refl);
+}
