@@ -14,7 +14,8 @@ ghost use Rattle.carv.specs.C.{written, Exported, ExportedWithImage, Opens};
 
 use carv_objects::Refusal;
 use carv_scheduler_spec::{Context, Results};
-use words::{Reported, WORDS};
+use words::Reported;
+pub use words::WORDS;
 
 // The number of an accepted call.
 const ACCEPTED: u64 = 0;

@@ -42,7 +42,7 @@ pub fn note(id: u64) -> usize
     (id % GUESSES) as usize
 }
 
-// The id that the next object gets.
+// The id that the next object gets. Here and below the length alone is asked: question 1 and the opening come before the area is well formed.
 pub fn next_id(a: &[u8]) -> u64
     requires { 8 ≤ length a.now }
     ensures { result ≡ (decode a.now).next }
@@ -170,8 +170,8 @@ pub fn find_budget(a: &[u8], id: u64) -> Option<usize>
     kind_at(a, i).is_budget().then_some(i)
 }
 
-// The object id, which stands at place i, has this account. An id and its place are no struct: that they belong together is a fact of the
-// lent bytes, which change, and not of the two numbers.
+// The object id, which stands at place i, has this account. An id and its place are no struct, as `Chosen` is one in carv_scheduler: each
+// function here would make one of what it has just found, for one clause saved.
 pub fn set_account(a: &mut [u8], i: usize, id: u64, account: Account)
     requires well_formed { WellFormed a.old }
     requires here { Here no_row (decode a.old).rows id i }

@@ -1,5 +1,5 @@
 // The calls on a sound area: document 01's questions in their order, then the step. lib.rt asks question 1 in front of each.
-// That the area is sound is a clause of each, and no type's invariant. A reader `Sound<'a>` over `&'a [u8]` was tried for `account` and
+// That the area is sound is a clause of each, here, in cpu.rt and in subtree.rt, and no type's invariant. A reader `Sound<'a>` over `&'a [u8]` was tried for `account` and
 // `charge_of`: it proves, but the writers would still have the clause. A writer `SoundMut<'a>` over `&'a mut [u8]` was tried for `charge_more`:
 // by value the borrow checker doesn't cover it; by `&mut self` it has a clause that `bytes` keeps its reference for the one saved, and its
 // caller in carv_scheduler, which lends a part of an area, isn't told what the part becomes.
@@ -92,7 +92,7 @@ pub fn create(a: &mut [u8], code: u64, payer: u64, backing: bool) -> Result<u64,
     Ok(store(a, i, payer, paid, plain(kind, payer, bytes)))
 }
 
-// The budget id, which stands at place i and has this account, is renewed.
+// The budget id, which stands at place i and has this account, is renewed. The account comes from the caller, who has read it.
 fn renew(a: &mut [u8], i: usize, id: u64, account: Account, time: u64)
     requires well_formed { WellFormed a.old }
     requires here { Here no_row (decode a.old).rows id i }
@@ -190,7 +190,7 @@ pub fn totals(a: &[u8], id: u64) -> Result<Totals, Refusal>
     Ok(subtree::sums(a, id, i))
 }
 
-// The place of an object that is there. Here is no guess, as `subtree::place` has one.
+// The place of an object that is there. Not `subtree::place`, which has a guess to try first: here is none.
 fn payer_place(a: &[u8], payer: u64) -> usize
     requires well_formed { WellFormed a.now }
     requires payer_value { has (decode a.now) payer ≡ true }

@@ -64,7 +64,7 @@ pub fn read_entry(t: &[u8], i: usize) -> Entry
     }
 }
 
-// The account of the entry at place i of the table t.
+// The entry at place i of the table t gets this account.
 pub fn write_account(t: &mut [u8], i: usize, a: Account)
     requires { (i * 11 + 11) * 8 + 8 ≤ length t.old }
     ensures { words t.new ≡ set_account (words t.old) i a }
@@ -78,6 +78,7 @@ pub fn append_entry(t: &mut [u8], id: u64, e: Entry)
     requires t_in_bounds { (length (rows_in (words t.old)) * 11 + 11) * 8 + 8 ≤ length t.old }
     ensures { Stored fields 11 t.new (rows_in (words t.old) ++ (row id e ∷ [])) }
 {
+    // By name: without a heap an array of eleven is not joined of two.
     let [
         cpu_allowance,
         memory_limit,

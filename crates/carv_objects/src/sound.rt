@@ -2,6 +2,7 @@
 // One walk over the rows: each row is tested by itself and against the rows before it, and what it takes is taken off its
 // payer's figures. These count down from the stored figure, so that no sum can wrap, and must end at 0.
 // specs/Laws/SoundWalk.antt says what the walk knows at each row, and specs/Laws/SoundBridge.antt that this is question 1.
+// That row i lies within is a clause: a place is a number, and the rows that there may be are as many as a word says.
 ghost use Rattle.std.specs.Prelude.{◌≡◌, ◌+◌, ◌*◌, ◌≤◌, ◌<◌, length, get_or};
 ghost use Rattle.std.specs.List.{list_all};
 ghost use Rattle.carv_area.specs.Words.{words};
@@ -15,7 +16,7 @@ use carv_objects_spec::{Entry, Kind};
 // The bytes of the table.
 const TABLE_BYTES: usize = area::BYTES - area::TABLE;
 
-// What is left of the figures of a row's account that are sums. Nothing prints or compares it.
+// What is left of the figures of a row's account that are sums. Nothing prints it, and `are_spent` compares it figure by figure.
 #[derive(Clone, Copy, Default)]
 struct Figures {
     used: u64,
@@ -70,7 +71,7 @@ fn place(t: &[u8], i: usize, p: u64, guess: usize) -> Option<usize>
     (lo < i && carv_area::get(t, lo * rows::ROW + rows::ID) == p).then_some(lo)
 }
 
-// The place of row i's payer, if row i fits the rows before it.
+// The place of row i's payer, if row i fits the rows before it. The parameters are no struct: they are the walk's, which `whole` has at hand.
 fn owner(t: &[u8], i: usize, next: u64, guess: usize) -> Option<usize>
     requires i_in_bounds { i * 88 + 96 ≤ length t.now }
     requires front { Front (words t.now) next i }
@@ -119,6 +120,7 @@ fn turn(t: &[u8], i: usize, next: u64, figures: &mut [Figures; area::PLACES], gu
         return false;
     };
     let a = e.account;
+    // An account's figures under other names, in this one place: so no `From`.
     figures[i] = Figures {
         used: a.memory_used,
         memory: a.memory_reserved,

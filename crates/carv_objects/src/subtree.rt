@@ -76,6 +76,7 @@ fn part(a: &[u8], i: usize, counts: bool) -> Totals
         return Totals::default();
     }
     let c = area::account_at(a, i);
+    // An account's figures under other names, in this one place: so no `From`.
     Totals {
         memory_used: c.memory_used,
         memory_free: c.free(),
@@ -108,6 +109,7 @@ pub fn sums(a: &[u8], b: u64, j: usize) -> Totals
         let to = area::note(area::id_at(a, i));
         places[to] = i as u16;
         let p = part(a, i, inside);
+        // By figure: sums are made here alone, so that `Totals` has no `AddAssign`.
         sums.memory_used += p.memory_used;
         sums.memory_free += p.memory_free;
         sums.cpu_left += p.cpu_left;

@@ -36,7 +36,7 @@ impl Kind {
 
     pub const IRQ_CONTROL_BYTES: u64 = 64;
 
-    // Is it the code of a kind? By range and not by `from_code(n).is_some()`: question 1 asks it of each row, and is measured.
+    // Is it the code of a kind? By range: `from_code(n).is_some()` is no plainer, and question 1 asks it of each row.
     pub fn is_listed(n: u64) -> bool
         ensures { result ≡ listed n }
     {

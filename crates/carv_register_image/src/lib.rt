@@ -9,7 +9,7 @@ pub const BYTES: usize = 512;
 
 const STEPS: usize = 64;
 
-// Word number i of the image. The x87 control word is 0x037f; MXCSR, at byte 24, 0x1f80, and its mask, at byte 28, 0xffbf.
+// Word number i of the image: i is a place, and no code. The x87 control word is 0x037f; MXCSR, at byte 24, 0x1f80, and its mask, at byte 28, 0xffbf.
 fn word_at(i: usize) -> u64
     ensures { result ≡ get_or (words register_image) i 0 }
 {
@@ -21,7 +21,7 @@ fn word_at(i: usize) -> u64
 }
 
 // Writes the eight bytes of step k of 64, from 1, as the word that they are, and no other. Compiled alone it is one 64-bit store.
-// A slice with its length, and no array as in `step`: that was tried, and that what `put` leaves in an array are bytes was not known.
+// A slice with its length, and no array as in `step`: that was tried, and the proof lacked that `put` leaves bytes in an array.
 fn write_eight(image: &mut [u8], k: usize, word: u64)
     requires image_bytes { length image.old ≡ 512 }
     requires is_step { (1 ≤ k) × (k ≤ 64) }
@@ -50,7 +50,7 @@ fn steps(image: &mut [u8; BYTES], n: usize)
     }
 }
 
-// All steps.
+// All steps. A slice, since the callers have slices.
 pub fn fill_image(image: &mut [u8])
     requires { length image.old ≡ 512 }
     ensures { image.new ≡ register_image }

@@ -33,7 +33,7 @@ pub const PLACES: usize = 128;
 
 pub const QUEUE_PLACES: usize = PLACES - 1;
 
-// The current thread.
+// The current thread. The length alone is asked: question 1 comes here before the area is well formed.
 pub fn current(a: &[u8]) -> u64
     requires { length a.now ≡ 68_144 }
     ensures { result ≡ (decode a.now).current }
@@ -117,7 +117,7 @@ pub fn set_thread(a: &mut [u8], i: usize, id: u64, t: Thread)
     rows::write_thread(&mut a[THREADS..QUEUE], i, id, t)
 }
 
-// Its state.
+// The state of the thread at place i.
 pub fn state_at(a: &[u8], i: usize) -> State
     requires well_formed { WellFormed a.now }
     requires i_in_bounds { i < length (decode a.now).threads }
@@ -126,7 +126,7 @@ pub fn state_at(a: &[u8], i: usize) -> State
     rows::read_state(&a[THREADS..QUEUE], i * ROW + rows::STATE)
 }
 
-// Its budget.
+// The budget of the thread at place i.
 pub fn budget_at(a: &[u8], i: usize) -> Option<u64>
     requires well_formed { WellFormed a.now }
     requires i_in_bounds { i < length (decode a.now).threads }
@@ -135,7 +135,7 @@ pub fn budget_at(a: &[u8], i: usize) -> Option<u64>
     rows::read_budget(&a[THREADS..QUEUE], i * ROW + rows::BUDGET)
 }
 
-// The root of its page table.
+// The root of the page table of the thread at place i.
 pub fn root_at(a: &[u8], i: usize) -> Option<u64>
     requires well_formed { WellFormed a.now }
     requires i_in_bounds { i < length (decode a.now).threads }

@@ -1,7 +1,7 @@
 // The calls on a sound area: document 01's questions in their order, then the step. lib.rt asks question 1 in front of each.
 // That the area is sound is a clause of each, here and in the files beside, and no type's invariant, for the reasons at the head of
 // carv_objects' calls.rt.
-// Kinds, waits and causes come as codes, listed or not: question 4 stands behind question 1, so that the code is asked here and in killing.rt.
+// Kinds of waits, and causes, come as codes, listed or not: question 4 stands behind question 1, so that the code is asked here and in killing.rt.
 ghost use Rattle.std.specs.Prelude.{◌≡◌, ◌<◌, true, length};
 ghost use Rattle.carv_area.specs.Table.{alter};
 ghost use Rattle.carv_area.specs.Lookup.{Here};

@@ -1,4 +1,4 @@
-// The exit log: ends of threads from the oldest, in rows of 2 words.
+// The exit log: ends of threads from the oldest, in rows of 2 words. That a row lies within is a clause, as in rows.rt.
 ghost use Rattle.std.specs.Prelude.{◌≡◌, ◌+◌, ◌*◌, ◌<◌, ◌≤◌, true, [], ◌∷◌, ◌++◌, length, drop, slice_index_or};
 ghost use Rattle.carv_area.specs.Words.{words};
 ghost use Rattle.carv_area.specs.Stored.{Stored};
@@ -96,7 +96,7 @@ pub fn log_exit(a: &mut [u8], thread: u64, cause: Cause)
     add_exit(a, thread, cause)
 }
 
-// The cause of the thread's oldest exit in the area.
+// The cause of the thread's oldest exit in the area. Not by `exit_in`: that is lent records, and here they are read out of the area.
 fn oldest(a: &[u8], id: u64) -> Option<Cause>
     requires { WellFormed a.now }
     ensures { result ≡ exit_in id (decode a.now).exits }

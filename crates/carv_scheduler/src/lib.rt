@@ -24,6 +24,7 @@ ghost use Rattle.carv_scheduler.specs.Area.{sound_area, Answered};
 ghost use Rattle.carv_scheduler.specs.Creating.{Created};
 ghost use Rattle.carv_objects.specs.Laws.Entry.{asked_sound};
 
+pub use area::BYTES;
 use carv_budget::Account;
 use carv_objects::{Charge, Refusal};
 use carv_objects_spec::Totals;
@@ -34,8 +35,8 @@ pub use opening::open;
 pub use planning::Switch;
 pub use sound::is_sound;
 
-// Question 1: is the area of its length, and the board in it sound? Beside carv_objects's, which asks of the registry alone: what both share
-// is the line from yes or no to an answer, and a function for that would be as long as either.
+// Question 1: is the area of its length, and the board in it sound? Beside `ask_sound` of carv_objects, which asks of the registry alone: what
+// both share is the line from yes or no to an answer, and a function for that would be as long as either.
 fn ask_sound(area: &[u8]) -> Result<(), Refusal>
     ensures { result ≡ asked_sound (sound_area area.now) }
 {

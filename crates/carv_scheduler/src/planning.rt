@@ -91,6 +91,7 @@ fn has_time(a: &mut [u8], i: usize, time: u64) -> bool
 }
 
 // Renews the budget of the thread id, which stands at this place. The place, if it is one and the thread has time left.
+// The id and the place are no `Chosen`: it may yet be passed over.
 fn try_thread(a: &mut [u8], id: u64, at: Option<usize>, time: u64) -> Option<usize>
     requires well_formed { WellFormed a.old }
     requires located { Located no_row (decode a.old).threads id at }
@@ -192,13 +193,13 @@ fn switch_to(a: &mut [u8], old: u64, killed: bool, next: Chosen) -> Option<Switc
     requires located { Stands next a.old }
     ensures { Switches next.id a.old result a.new }
 {
-    let said = next.switch_answer(a, old);
+    let answer = next.switch_answer(a, old);
     next.run(a);
     if next.id != old {
         set_current(a, next.id);
         leave(a, old, killed);
     }
-    said
+    answer
 }
 
 // Plans at tick n: the thread to run, and the switch to make.

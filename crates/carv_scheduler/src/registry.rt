@@ -1,6 +1,6 @@
 // The registry's calls on a sound board: each is lent the registry's part of the area.
-// No generic function lends it to a call as a closure: tried for `charge_more`, where each caller had a goal more, what the call asks of
-// the part, and its body was one line still.
+// No generic function lends it to a call as a closure: tried for `charge_more`, where the body was one line still, and each caller had to
+// prove besides what the call requires of the part.
 #![tactic(auto, using(crate::proofs::Rules::lent))]
 
 ghost use Rattle.std.specs.Prelude.{◌≡◌, true};

@@ -216,7 +216,7 @@ pub fn insert_thread(t: &mut [u8], i: usize, id: u64, thread: Thread)
     write_thread(t, i, id, thread)
 }
 
-// The current thread and the switch count.
+// The current thread and the switch count: the head's two words, which are all that it is lent.
 pub fn write_head(h: &mut [u8], current: u64, switches: u64)
     requires { length h.old ≡ 16 }
     ensures { words h.new ≡ slice_set (slice_set (words h.old) 0 current) 1 switches }

@@ -3,6 +3,7 @@
 // marks the place of each id; over the threads, each of which is tested by itself and by its mark; and over the exits' causes.
 // specs/Laws/SoundWalk.antt says what the walks know, and specs/Laws/SoundBridge.antt that this is question 1.
 // Stored words are tested here, listed or not: so states, kinds, causes and whether there is a budget or a space are numbers.
+// That row i lies within is a clause: a place is a number, and the rows that there may be are as many as a word says.
 ghost use Rattle.std.specs.Prelude.{◌≡◌, ◌+◌, ◌*◌, ◌<◌, ◌≤◌, length, slice_index};
 ghost use Rattle.carv_area.specs.Words.{words};
 ghost use Rattle.carv_objects.specs.Laws.SoundWalk.{Tells};
@@ -28,7 +29,7 @@ const QUEUE_BYTES: usize = area::EXITS - area::QUEUE;
 
 const EXITS_BYTES: usize = area::BYTES - area::EXITS;
 
-// Where a walk notes the place of an id.
+// Where a walk notes the place of an id. As `area::note` of carv_objects, by a prime and to a bound of this crate's own.
 fn note(id: u64) -> usize
     ensures { result < 256 }
 {
@@ -172,6 +173,7 @@ fn idle_fits(table: Table<'_, ROW>, current: u64) -> bool
 }
 
 // Is the id at place j of the queue a Ready thread's, other than idle, and not yet marked? Then its place is marked.
+// The parameters are no struct: `marks` alone changes, and a struct of all would lend each of them for change.
 fn turn(
     table: Table<'_, ROW>,
     q: &[u8; QUEUE_BYTES],
@@ -215,6 +217,7 @@ fn queue_fits(
     requires walk { Walk (words table.bytes.now) (words q.now) 0 marks.old }
     ensures { Walked (words table.entry.bytes.now) (words q.now) result marks.new }
 {
+    // A `for` that returns early: the closure of `all` would change the marks, and a proof knows nothing of what it left.
     for j in 0..m {
         if !turn(table, q, j, places, marks) {
             return false;
@@ -235,6 +238,7 @@ fn threads_are_sound(
     requires m_value { (m ≡ slice_index (words q.now) 0) × (m ≤ 127) }
     ensures { Tells result (SoundThreads (words t.now) (words q.now) current) }
 {
+    // `places` goes by what is left of an id, and `marks` by row, so that they are no two columns of one array.
     let mut places = [0usize; NOTES];
     if !ids_rise(t, n, &mut places) {
         return false;

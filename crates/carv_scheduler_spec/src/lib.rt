@@ -22,7 +22,7 @@ pub enum Wait {
 }
 
 impl Wait {
-    // Is it the code of a kind?
+    // Is it the code of a kind? By range, as `Kind::is_listed`.
     pub fn is_listed(kind: u64) -> bool
         ensures { result ≡ wait_listed kind }
     {
@@ -158,7 +158,7 @@ pub struct Context {
     pub ss: u64,
 }
 
-// The three result words that a blocked system call completes with.
+// The three result words that a blocked system call completes with. They have no names of their own in document 01.
 #[derive(Clone, Copy, Debug, Default, PartialEq, Eq)]
 pub struct Results {
     pub first: u64,
@@ -223,7 +223,8 @@ pub fn is_word<T: Copy>(o: Option<T>) -> u64
     u64::from(o.is_some())
 }
 
-// Why a thread ended. The codes are document 01's.
+// Why a thread ended. The codes are document 01's. Beside `Kind`, whose four functions for codes have these names: a trait of both would have
+// each written out all the same, and its laws stated for each.
 #[derive(Clone, Copy, Debug, PartialEq, Eq)]
 pub enum Cause {
     Destroyed = 1,

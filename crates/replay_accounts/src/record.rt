@@ -52,7 +52,7 @@ pub struct Call {
     pub time: u64,
 }
 
-// What a call answers and leaves.
+// What a call answers and leaves. Its number is as it was recorded, or as `BudgetError` has it.
 #[derive(Clone, Copy, Debug, PartialEq, Eq)]
 pub struct Reply {
     pub number: u64,

@@ -59,7 +59,7 @@ module _ (l : List ℕ) (k : ℕ) where
   -- the number is as recorded, and the words are asked one by one
   pub words_tell : (out : List ℕ) (r v : ℕ) → v ≡ word l (k + 12) → r ≡ v → length out ≡ 20 → (b : Bool)
       → MatchBool b (AllWithin (λ i. get_or out i 0 ≡ recorded_word l k i) (range_with_len 0 20) 0 (length (range_with_len 0 20)))
-          ((i : ℕ) × (i < length (range_with_len 0 20)) × HoldsAt (λ i. get_or out i 0 ≡ recorded_word l k i → ⊥) (range_with_len 0 20) i)
+      ((i : ℕ) × (i < length (range_with_len 0 20)) × HoldsAt (λ i. get_or out i 0 ≡ recorded_word l k i → ⊥) (range_with_len 0 20) i)
       → Tells b ((r ≡ word l (k + 12)) × (out ≡ recorded l k))
   words_tell out r v p e s true h = as_recorded out r v p e s (λ i b.
       let q : get_or (range_with_len 0 20) i 0 ≡ i = omega (arith, get_or-range_with_len 0 20 i 0 b) in

@@ -6,16 +6,14 @@
 mod record;
 mod replay;
 
+use carv_scheduler::BYTES;
 use replay::Board;
 use replay_records::replay_all;
 use std::io;
 
-// The bytes of the board, as docs/LAYOUT.md gives them: carv and carv_scheduler export no constant for it.
-const AREA_BYTES: usize = 68_144;
-
 fn main(rt: HostRuntime) -> io::Result<()> {
     let mut board = Board {
-        area: [0; AREA_BYTES],
+        area: [0; BYTES],
         rt: &rt,
     };
     let run = replay_all(&mut rt.stdin(), &mut board);

@@ -9,7 +9,7 @@ use replay_records::UnlistedOp;
 pub const RECORD_BYTES: usize = 272;
 
 // The words that a call answers in.
-pub const ANSWER_WORDS: usize = 20;
+pub const ANSWER_WORDS: usize = carv::WORDS;
 
 // What each answer word holds before a call.
 pub const UNWRITTEN: u64 = 6_148_914_691_236_517_205;
@@ -81,7 +81,7 @@ impl TryFrom<u64> for Op {
     }
 }
 
-// The call that a record tells of: its code and its arguments. These are fields, since specs/Replay.antt says them by name, `c.first`, in each
+// The call that a record tells of. Its op is the number as it was read. Its arguments are fields, since specs/Replay.antt says them by name, `c.first`, in each
 // case of `Made`; an array would be read by number there.
 #[derive(Clone, Copy, Debug, PartialEq, Eq)]
 pub struct Call {
@@ -135,6 +135,5 @@ fn recorded_word(bytes: &[u8; RECORD_BYTES], i: usize) -> u64
 pub fn is_recorded(bytes: &[u8; RECORD_BYTES], number: u64, out: &[u64; ANSWER_WORDS]) -> bool
     ensures { Tells result ((number ≡ word bytes.now 12) × (out.now ≡ recorded bytes.now 0)) }
 {
-    number == get(bytes, 12)
-        && (0..ANSWER_WORDS).all(|i| out[i] == recorded_word(bytes, i))
+    number == get(bytes, 12) && (0..ANSWER_WORDS).all(|i| out[i] == recorded_word(bytes, i))
 }

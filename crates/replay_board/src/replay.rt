@@ -4,16 +4,17 @@ ghost use Rattle.std.proofs.Common.{rules};
 ghost use Rattle.replay_board.specs.Record.{code};
 ghost use Rattle.replay_board.specs.Replay.{NewThread, Made, Agrees, replays_record};
 
-use crate::AREA_BYTES;
 use crate::record::{ANSWER_WORDS, Call, Op, RECORD_BYTES, UNWRITTEN, call_of, is_recorded};
 use carv_area::get;
+use carv_scheduler::BYTES;
 use replay_records::Replay;
 
 // A new thread, whose register image is not in the records.
 fn create_user_thread(area: &mut [u8], id: u64, budget: u64, stack: bool, out: &mut [u64]) -> u64
     ensures { NewThread id budget stack area.old out.old result area.new out.new }
 {
-    let mut image = [0u8; 512];
+    // Of fixed size, here and below: no heap.
+    let mut image = [0u8; carv_register_image::BYTES];
     carv::carv_create_user_thread(area, id, budget, stack, &mut image, out)
 }
 
@@ -85,7 +86,7 @@ fn matches(area: &mut [u8], bytes: &[u8; RECORD_BYTES]) -> bool
 // The board that the calls are made on. It tells on rt which differ; where that can't be written, the count goes on all the same.
 #[derive(Drop)]
 pub struct Board<'a, P> {
-    pub area: [u8; AREA_BYTES],
+    pub area: [u8; BYTES],
     pub rt: &'a P,
 }
 

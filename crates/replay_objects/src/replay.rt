@@ -96,7 +96,7 @@ impl Told for Totals {
     }
 }
 
-// The number of a refusal is read off here, and not by `number_of`: carv's is private, and carv_budget's is of another error.
+// The number of a refusal is read off here, and not by `number_of`: this program is not built on carv, and carv_budget's is of another error.
 impl<T: Told> From<Result<T, Refusal>> for Reply {
     ghost from_gives = { λ answer reply. reply ≡ replied T.tells answer };
 
@@ -138,7 +138,7 @@ fn make(area: &mut [u8], op: Op, call: Call) -> Reply
     }
 }
 
-// Whether the call answers the reply. One with an op that is not listed is not made and answers none.
+// Whether the call answers the reply. The `matches` of the three programs share their first lines alone: what is called and compared differs. One with an op that is not listed is not made and answers none.
 fn matches(area: &mut [u8], call: Call, reply: Reply) -> bool
     ensures { Agrees call reply area.old result area.new }
 {

@@ -89,8 +89,8 @@ impl Tally {
     }
 }
 
-// The bytes of a full block: as many records of `size` bytes as the buffer holds. The size is a number, here and in `Tally`, which is of no
-// program; what replays has it as a const parameter.
+// The bytes of a full block: as many records of `size` bytes as the buffer holds. The size is a parameter, here and in
+// `Tally`: neither belongs to one program. What replays a program's records has it as a const parameter.
 #[tactic(auto, unfolding(crate::specs::Tally::block_bytes))]
 fn block_bytes(size: usize) -> usize
     requires { 0 < size }
