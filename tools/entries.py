@@ -57,7 +57,7 @@ STRUCTS = {
     'Results': ['first', 'second', 'third'],
 }
 WRITTEN = '// Written by tools/entries.py from its list of calls; what stands below this line is replaced.\n'
-LIB_MARK = '// The calls, each with question 1 in front.\n' + WRITTEN
+LIB_MARK = '// The calls, each with question 1 in front, and so with kinds, waits and causes as codes: question 4 stands behind it.\n' + WRITTEN
 C_MARK = '// The calls.\n' + WRITTEN
 EXPORT = '#[unsafe(no_mangle)]\npub extern "C" fn '
 # The functions of carv written by hand: the one that is lent an image, and the contracts of the others.

@@ -1,5 +1,5 @@
 // The functions for C: the area and 20 answer words are lent, the number is returned, and the values of the answer stand in the
-// first answer words. specs/C.antt says which.
+// first answer words. specs/C.antt says which. Kinds, waits and causes come as codes, as C passes them.
 #![tactic(auto)]
 
 mod words;

@@ -32,7 +32,9 @@ impl<'a, const WIDTH: usize> Table<'a, WIDTH> {
     }
 
     // How many keys are below id, by halving the count places from start on: the keys before them are below id, and those
-    // behind them above it. By hand, over the words where they stand: a library search over rows as chunks was not tried.
+    // behind them above it. By hand: `partition_point` over rows as chunks was tried. It proves, with 67 lines more, but takes seven
+    // instructions more a search and one register more where it is inlined: `replay_objects` ran 0.14 % more instructions, 6.6 % more outside
+    // question 1.
     fn halve(&self, id: u64, start: usize, count: usize) -> usize
         requires { Bracket (keys WIDTH (words self.now.bytes.now)) id start count }
         ensures { result ≡ rank_in (keys WIDTH (words self.now.bytes.now)) id }

@@ -34,7 +34,7 @@ pub enum BudgetError {
 }
 
 impl BudgetError {
-    // Document 01's number.
+    // Document 01's number. A `match`: four refusals share one.
     pub fn number(self) -> u64
         ensures { result ≡ number self }
     {

@@ -1,6 +1,7 @@
 // The C functions as the static library that C links: each is carv's function of the same name, under the same clauses. A crate is a
 // library or a static library, not both, and the demands and the programs stand on carv. The area and 20 answer words are lent, the number
-// is returned, and the values of the answer stand in the first answer words. carv/specs/C.antt says which.
+// is returned, and the values of the answer stand in the first answer words. carv/specs/C.antt says which. Kinds, waits and causes come as
+// codes, as C passes them.
 #![tactic(auto)]
 
 ghost use Rattle.std.specs.Prelude.{◌≡◌};

@@ -1,7 +1,7 @@
 // The registry's area: its parts, each lent to one function of the table. docs/LAYOUT.md has the layout.
 // That it is well formed is asked in each contract, and is no type's invariant. `Registry<'a> { bytes: &'a mut [u8], ghost formed: { WellFormed
 // bytes.now } }` with a method `set_account` was tried: each `&mut` method has a clause that `bytes` keeps its reference, one for the one that
-// the field saves, and a ghost field is a proposition, which `WellFormed`, as it is stated, is none. A reader over `&'a [u8]` was tried in
+// the field saves, and a ghost field must be a proposition, and `WellFormed`, as it is stated, is none. A reader over `&'a [u8]` was tried in
 // calls.rt: the writers would still have the clause, and would make a reader at each reading. That a place is one of the table's is a clause,
 // too: it is a number, which stays when rows move.
 ghost use Rattle.std.specs.Prelude.{◌≡◌, true, ◌&&◌, [], ◌∷◌, ◌++◌, ◌+◌, ◌*◌, ◌≤◌, ◌<◌, length, get_or};
@@ -29,13 +29,13 @@ pub const PLACES: usize = 512;
 
 const LAST_ID: u64 = u64::MAX;
 
-// A walk over the rows notes where an id stands under its rest by this prime.
+// A walk over the rows notes where an id stands under its remainder by this prime.
 const GUESSES: u64 = 509;
 
 // The id of the root budget.
 pub const ROOT: u64 = 1;
 
-// Where a walk notes the place of an id.
+// Where a walk notes the place of an id. What is noted is a guess, tried first: no clause asks that it is right.
 pub fn note(id: u64) -> usize
     ensures { result < 512 }
 {

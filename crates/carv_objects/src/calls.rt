@@ -1,9 +1,10 @@
 // The calls on a sound area: document 01's questions in their order, then the step. lib.rt asks question 1 in front of each.
-// That the area is sound is a clause of each, here, in cpu.rt and in subtree.rt, and no type's invariant. A reader `Sound<'a>` over `&'a [u8]` was tried for `account` and
-// `charge_of`: it proves, but the writers would still have the clause. A writer `SoundMut<'a>` over `&'a mut [u8]` was tried for `charge_more`:
-// by value the borrow checker doesn't cover it; by `&mut self` it has a clause that `bytes` keeps its reference for the one saved, and its
-// caller in carv_scheduler, which lends a part of an area, isn't told what the part becomes.
-// Kinds come as codes, listed or not: question 4 stands behind question 1, so that the code is asked here.
+// That the area is sound is a clause of each, here, in cpu.rt and in subtree.rt, and no type's invariant. A reader `Sound<'a>` over `&'a
+// [u8]` was tried for `account` and `charge_of`: it proves, but the writers would still have the clause. A writer `SoundMut<'a>` over `&'a
+// mut [u8]` was tried for `charge_more`: by value the borrow checker doesn't cover the writer; by `&mut self` it has a clause that `bytes`
+// keeps its reference for the one saved, and its caller in carv_scheduler, which lends a part of an area, isn't told what the part becomes.
+// Kinds come as codes, listed or not: question 4 stands behind question 1, so that the code is asked here. An id and its place are no struct:
+// see `area::set_account`.
 ghost use Rattle.std.specs.Prelude.{◌≡◌, true, not, ◌&&◌, ◌||◌, ◌<◌, eqb, length, get_or};
 ghost use Rattle.carv_area.specs.Rows.{remove_at};
 ghost use Rattle.carv_area.specs.Lookup.{Here};
@@ -17,6 +18,7 @@ ghost use Rattle.carv_objects.specs.Laws.Rows.{no_row};
 ghost use Rattle.carv_objects.specs.Laws.Formed.{WellFormed, Leaves};
 ghost use Rattle.carv_objects.specs.Laws.AreaSteps.{with_rows};
 
+// For a caller that knows a budget's place.
 pub use crate::area::account_at;
 use crate::{Charge, Kind, Refusal, accounts, area, subtree};
 use carv_budget::Account;

@@ -1,4 +1,5 @@
-// What the scheduler asks of the registry in a sound area: the CPU time of a thread's budget.
+// What the scheduler asks of the registry in a sound area: the CPU time of a thread's budget. That it is sound is a clause: see the head of
+// calls.rt.
 ghost use Rattle.std.specs.Prelude.{◌≡◌, true};
 ghost use Rattle.carv_objects_spec.specs.Registry.{charge_most};
 ghost use Rattle.carv_objects.specs.Area.{decode, sound_area, Is, Renews};

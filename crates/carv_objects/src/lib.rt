@@ -33,7 +33,7 @@ pub struct Charge {
     pub bytes: u64,
 }
 
-// The calls, each with question 1 in front.
+// The calls, each with question 1 in front, and so with kinds as codes: question 4 stands behind it.
 
 // A new object of this kind.
 pub fn create(area: &mut [u8], kind: u64, payer: u64, backing: bool) -> Result<u64, Refusal>

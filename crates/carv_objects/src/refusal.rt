@@ -35,7 +35,7 @@ pub enum Refusal {
 }
 
 impl Refusal {
-    // Document 01's number.
+    // Document 01's number. No `From`: `u64::from(refusal)` is no plainer.
     pub fn number(self) -> u64
         ensures { result ≡ refusal_number self }
     {

@@ -33,7 +33,7 @@ const MEMORY_USED: usize = 10;
 
 const MEMORY_RESERVED: usize = 11;
 
-// The account of the entry at place i of the table t.
+// The account of the entry at place i of the table t. By field: an array of words to make it of would have to be filled word by word.
 pub fn read_account(t: &[u8], i: usize) -> Account
     requires { (i * 11 + 11) * 8 + 8 ≤ length t.now }
     ensures { result ≡ (row_at (words t.now) i).it.account }

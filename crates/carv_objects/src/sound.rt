@@ -37,7 +37,8 @@ impl Figures {
     }
 }
 
-// Is an entry in order by itself, whose kind is stored as this code? A sound account with the three figures at 0 has the other four at 0.
+// Is an entry in order by itself, whose kind is stored as this code? The code comes beside it, since an unlisted one reads as the last kind.
+// A sound account with the three figures at 0 has the other four at 0.
 fn is_plain(code: u64, e: Entry) -> bool
     ensures { Tells result (Plain code e) }
 {
@@ -49,7 +50,8 @@ fn is_plain(code: u64, e: Entry) -> bool
 }
 
 // The place below i whose id is p. guess is tried first.
-// By hand: the ids stand in lent bytes, and carv_area::Table::find asks that all rows' ids rise, where only the first i are known to.
+// By hand: carv_area::Table::find asks that all rows' ids rise, where only the first i are known to. `partition_point` over these rows
+// as chunks was tried: it proves, with 47 lines more, and question 1 ran 0.05 % more instructions in `replay_objects`.
 fn place(t: &[u8], i: usize, p: u64, guess: usize) -> Option<usize>
     requires i_in_bounds { i * 88 + 8 ≤ length t.now }
     requires rise { Rise (words t.now) i }
@@ -148,8 +150,8 @@ fn are_spent(figures: &[Figures]) -> bool
     })
 }
 
-// Are the n rows in order, and each budget's figures the sums? The place of a payer is guessed from its id: `places` goes by what is left
-// of an id, and `figures` by row, so that they are no two columns of one array.
+// Are the n rows in order, and each budget's figures the sums? The place of a payer is guessed from its id: `places` goes by the
+// remainder of an id, and `figures` by row, so that they are no two columns of one array.
 fn whole(t: &[u8; TABLE_BYTES], n: usize, next: u64) -> bool
     requires n_value { n ≡ get_or (words t.now) 0 0 }
     requires n_bound { n ≤ 512 }
@@ -160,7 +162,7 @@ fn whole(t: &[u8; TABLE_BYTES], n: usize, next: u64) -> bool
     }
     let mut figures = [Figures::default(); area::PLACES];
     let mut places = [0usize; area::PLACES];
-    // A `for` that returns early: the closure of `all` would change both arrays, and its clause would say the loop's invariant again.
+    // A `for` that returns early: the closure of `all` would change both arrays, and a proof knows nothing of what it left.
     for i in 0..n {
         let from = area::note(carv_area::get(t, i * rows::ROW + rows::PAYER));
         if !turn(t, i, next, &mut figures, places[from]) {

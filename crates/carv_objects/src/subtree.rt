@@ -1,5 +1,6 @@
 // P1: what is within a budget, and the totals over it. Rows stand by rising id and payers have lower ids, so one pass over the rows, which
 // marks each, has marked a row's payer when it comes to the row. specs/Laws/TotalSteps.antt says what the pass knows at each row.
+// That the area is sound or well formed is a clause: see the head of calls.rt.
 ghost use Rattle.std.specs.Prelude.{◌≡◌, true, ◌<◌, length, get_or};
 ghost use Rattle.carv_area.specs.Lookup.{Here};
 ghost use Rattle.carv_objects_spec.specs.Registry.{has, is_budget};
@@ -85,7 +86,7 @@ fn part(a: &[u8], i: usize, counts: bool) -> Totals
 }
 
 // The sums over the budget b, which stands at place j, and all below it. What is no budget has an account of zeros. The place of a
-// payer is guessed from its id: `places` goes by what is left of an id, and `marks` by row.
+// payer is guessed from its id: `places` goes by the remainder of an id, and `marks` by row.
 pub fn sums(a: &[u8], b: u64, j: usize) -> Totals
     requires a_value { sound_area a.now ≡ true }
     requires here { Here no_row (decode a.now).rows b j }
@@ -93,7 +94,7 @@ pub fn sums(a: &[u8], b: u64, j: usize) -> Totals
     ensures { result ≡ totals (decode a.now) b }
 {
     let mut marks = [false; area::PLACES];
-    // u16: the stack of a C function is held to 18,432 bytes, which tools/stack asks, and usize misses it.
+    // u16: the stack of a C function is held to 18,432 bytes, which tools/stack asks, and usize would go over it.
     let mut places = [0u16; area::PLACES];
     let mut sums = Totals::default();
     for i in 0..area::count(a) {

@@ -93,6 +93,7 @@ impl Kind {
         }
     }
 
+    // By pattern, as the two questions below.
     pub fn is_budget(self) -> bool
         ensures { result ≡ is_budget_kind self }
     {

@@ -1,5 +1,5 @@
-// What a registry holds: entries under rising ids, each of a kind. The definitions of every call on it, and the theorems on them, stand in specs/;
-// carv_objects has the code. After kernel/src/objects.rs and the kinds of carv-abi.
+// What a registry holds: entries under rising ids, each of a kind. The definitions of every call on it, and the theorems on them, stand in
+// specs/; carv_objects has the code. After kernel/src/objects.rs and the kinds of carv-abi.
 #![tactic(auto)]
 
 mod kind;

@@ -9,7 +9,8 @@ pub const BYTES: usize = 512;
 
 const STEPS: usize = 64;
 
-// Word number i of the image: i is a place, and no code. The x87 control word is 0x037f; MXCSR, at byte 24, 0x1f80, and its mask, at byte 28, 0xffbf.
+// Word number i of the image: i is a place, and no code. The x87 control word is 0x037f; MXCSR, at byte 24, 0x1f80, and its mask, at byte 28,
+// 0xffbf.
 fn word_at(i: usize) -> u64
     ensures { result ≡ get_or (words register_image) i 0 }
 {

@@ -1,7 +1,7 @@
 // The board's area: its parts, each lent to one function of carv_area or of the rows. docs/LAYOUT.md has the layout.
 // That it is well formed is asked in each contract, and is no type's invariant, for the reasons at the head of carv_objects' area.rt;
 // and so is that a place is one of its table's. The readers are as carv_objects', a line each over carv_area: what they say is of another
-// `decode`, which one function for both would take as a parameter.
+// `decode`, which one function for both would take as a parameter. An id and its place are no struct: see `set_account` there.
 ghost use Rattle.std.specs.Prelude.{◌≡◌, ◌<◌, [], ◌∷◌, ◌++◌, length, get_or, slice_index, slice_index_or, slice_set};
 ghost use Rattle.carv_area.specs.Table.{put};
 ghost use Rattle.carv_area.specs.Rows.{remove_at};

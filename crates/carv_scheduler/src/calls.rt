@@ -1,7 +1,8 @@
 // The calls on a sound area: document 01's questions in their order, then the step. lib.rt asks question 1 in front of each.
 // That the area is sound is a clause of each, here and in the files beside, and no type's invariant, for the reasons at the head of
-// carv_objects' calls.rt.
-// Kinds of waits, and causes, come as codes, listed or not: question 4 stands behind question 1, so that the code is asked here and in killing.rt.
+// carv_objects' calls.rt. An id and its place are no struct: see `set_account` in carv_objects' area.rt.
+// Kinds of waits, and causes, come as codes, listed or not: question 4 stands behind question 1, so that the code is asked here and in
+// killing.rt.
 ghost use Rattle.std.specs.Prelude.{◌≡◌, ◌<◌, true, length};
 ghost use Rattle.carv_area.specs.Table.{alter};
 ghost use Rattle.carv_area.specs.Lookup.{Here};
@@ -52,6 +53,7 @@ pub fn store_and_join(a: &mut [u8], i: usize, id: u64, t: Thread)
     area::queue_push(a, id);
 }
 
+// The three ids are no `Spaces`, which only a started thread has: the definition `start` and the Rust's take them one by one.
 pub fn start(
     a: &mut [u8],
     id: u64,

@@ -1,4 +1,5 @@
-// The exit log: ends of threads from the oldest, in rows of 2 words. That a row lies within is a clause, as in rows.rt.
+// The exit log: ends of threads from the oldest, in rows of 2 words. That a row lies within is a clause, as in rows.rt,
+// and so is that the area is sound or well formed: see the head of calls.rt.
 ghost use Rattle.std.specs.Prelude.{◌≡◌, ◌+◌, ◌*◌, ◌<◌, ◌≤◌, true, [], ◌∷◌, ◌++◌, length, drop, slice_index_or};
 ghost use Rattle.carv_area.specs.Words.{words};
 ghost use Rattle.carv_area.specs.Stored.{Stored};
@@ -115,7 +116,7 @@ pub fn exit_of(a: &[u8], id: u64) -> Result<Option<Cause>, Refusal>
     Ok(oldest(a, id))
 }
 
-// The same in a lent run of exits, from the oldest, whatever says their causes.
+// The same in a lent run of exits, from the oldest, whatever the type of their causes.
 pub fn exit_in<C: Copy>(exits: &[Exit<C>], thread: u64) -> Option<C>
     ensures { result ≡ exit_in thread exits.now }
 {

@@ -1,4 +1,6 @@
 // The end of a thread: it leaves the table, or stays Dead where it is current, leaves the ready queue, and its end is logged.
+// The cause comes as a code: question 4 stands behind question 1. That the area is sound or well formed is a clause: see the head of
+// calls.rt. An id and its place are no struct: see `set_account` in carv_objects' area.rt.
 ghost use Rattle.std.specs.Prelude.{◌≡◌, true};
 ghost use Rattle.carv_area.specs.Lookup.{Here};
 ghost use Rattle.carv_area.specs.Keys.{find_in};

@@ -62,7 +62,7 @@ pub fn create_user_thread(
     Ok(())
 }
 
-// The calls, each with question 1 in front.
+// The calls, each with question 1 in front, and so with kinds, waits and causes as codes: question 4 stands behind it.
 // Written by tools/entries.py from its list of calls; what stands below this line is replaced.
 
 // A new object of this kind.

@@ -18,7 +18,7 @@ fn open_registry(a: &mut [u8], cpu: u64, memory: u64)
     requires cpu_bound { cpu ≤ 10_000_000 }
     ensures { RegistryOpened cpu memory a.old a.new }
 {
-    // The length and the share are what opening asks: it is not refused.
+    // `open` has asked the length and the share, so that this is not refused, and what follows is of accepted openings alone.
     carv_objects::open(&mut a[0..area::HEAD], cpu, memory).unwrap();
 }
 

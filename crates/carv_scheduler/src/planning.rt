@@ -1,4 +1,5 @@
 // Planning: a running thread goes back to the queue, the first thread of the queue with time left is taken out, and it runs.
+// That the area is sound or well formed is a clause: see the head of calls.rt.
 ghost use Rattle.std.specs.Prelude.{◌≡◌, ◌+◌, ◌%◌, ◌^◌, ◌<◌, true, length, slice_index_or};
 ghost use Rattle.carv_area.specs.Lookup.{Located};
 ghost use Rattle.carv_scheduler_spec.specs.Scheduler.{is, dead, thread, root_of, plan};
@@ -70,7 +71,7 @@ impl Chosen {
     }
 }
 
-// Renews the budget id, if it is live. Has it CPU left then?
+// Renews the budget id, if it is live. Has it CPU left then? Lends the registry's part, as the functions of registry.rt.
 fn renew(a: &mut [u8], id: u64, time: u64) -> bool
     requires { WellFormed a.old }
     ensures { Renewing time id a.old result a.new }

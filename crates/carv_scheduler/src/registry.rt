@@ -1,6 +1,7 @@
 // The registry's calls on a sound board: each is lent the registry's part of the area.
 // No generic function lends it to a call as a closure: tried for `charge_more`, where the body was one line still, and each caller had to
-// prove besides what the call requires of the part.
+// prove besides what the call requires of the part. Kinds come as codes, which the calls of carv_objects ask. That the area is sound is a
+// clause: see the head of calls.rt.
 #![tactic(auto, using(crate::proofs::Rules::lent))]
 
 ghost use Rattle.std.specs.Prelude.{◌≡◌, true};

@@ -36,10 +36,6 @@ const CONTEXT: usize = 11;
 
 const RESULTS: usize = 18;
 
-const SECOND: usize = RESULTS + 1;
-
-const THIRD: usize = RESULTS + 2;
-
 const TICKS: usize = 21;
 
 // The words of the head.
@@ -161,20 +157,16 @@ pub fn write_state(t: &mut [u8], i: usize, state: State)
     requires { (i * 21 + 21) * 8 + 8 ≤ length t.old }
     ensures { words t.new ≡ set_state (words t.old) i state }
 {
-    let o = i * ROW;
-    carv_area::put(t, o + STATE, state.code());
-    carv_area::put(t, o + WAIT, state.wait_kind());
-    carv_area::put(t, o + WAIT_NUMBER, state.wait_number());
+    let words = [state.code(), state.wait_kind(), state.wait_number()];
+    carv_area::put_words(t, i * ROW + STATE, &words);
 }
 
 fn write_results(t: &mut [u8], i: usize, results: Results)
     requires { (i * 21 + 21) * 8 + 8 ≤ length t.old }
     ensures { words t.new ≡ set_results (words t.old) i results }
 {
-    let o = i * ROW;
-    carv_area::put(t, o + RESULTS, results.first);
-    carv_area::put(t, o + SECOND, results.second);
-    carv_area::put(t, o + THIRD, results.third);
+    let words = [results.first, results.second, results.third];
+    carv_area::put_words(t, i * ROW + RESULTS, &words);
 }
 
 // The record under the id at place i of the table t.
@@ -216,11 +208,10 @@ pub fn insert_thread(t: &mut [u8], i: usize, id: u64, thread: Thread)
     write_thread(t, i, id, thread)
 }
 
-// The current thread and the switch count: the head's two words, which are all that it is lent.
+// The current thread and the switch count: the head's two words. A slice with its length: an array would be an `unwrap` more.
 pub fn write_head(h: &mut [u8], current: u64, switches: u64)
     requires { length h.old ≡ 16 }
     ensures { words h.new ≡ slice_set (slice_set (words h.old) 0 current) 1 switches }
 {
-    carv_area::put(h, CURRENT, current);
-    carv_area::put(h, SWITCHES, switches);
+    carv_area::put_words(h, CURRENT, &[current, switches]);
 }

@@ -17,7 +17,7 @@ use crate::{area, exits};
 use carv_area::Table;
 use carv_scheduler_spec::{Cause, State, Wait};
 
-// Where an id stands is noted under its rest by this prime, and how many notes there can be.
+// Where an id stands is noted under its remainder by this prime, and how many notes there can be.
 const GUESSES: u64 = 251;
 
 const NOTES: usize = 256;
@@ -124,7 +124,7 @@ fn threads_fit(
     (0..n).all(|i| thread_fits(t, i, current, marks[i]))
 }
 
-// Do the ids of the n threads rise? Each place is noted under its id's rest.
+// Do the ids of the n threads rise? Each place is noted under its id's remainder.
 // A loop, and no iterator: each id is compared with the one before it, and its place is noted.
 fn ids_rise(t: &[u8; THREADS_BYTES], n: usize, places: &mut [usize; NOTES]) -> bool
     requires n_value { n ≡ slice_index (words t.now) 0 }
@@ -238,7 +238,7 @@ fn threads_are_sound(
     requires m_value { (m ≡ slice_index (words q.now) 0) × (m ≤ 127) }
     ensures { Tells result (SoundThreads (words t.now) (words q.now) current) }
 {
-    // `places` goes by what is left of an id, and `marks` by row, so that they are no two columns of one array.
+    // `places` goes by the remainder of an id, and `marks` by row, so that they are no two columns of one array.
     let mut places = [0usize; NOTES];
     if !ids_rise(t, n, &mut places) {
         return false;

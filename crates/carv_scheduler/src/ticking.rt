@@ -1,4 +1,6 @@
 // `wake` and `tick`: a blocked thread wakes; the current thread runs a tick, which its budget is charged, and the sleepers that are due wake.
+// That the area is sound or well formed is a clause: see the head of calls.rt. An id and its place are no struct: see `set_account` in
+// carv_objects' area.rt.
 ghost use Rattle.std.specs.Prelude.{◌≡◌, ◌<◌, true, length, slice_index_or};
 ghost use Rattle.carv_area.specs.Table.{pick};
 ghost use Rattle.carv_area.specs.Lookup.{Here};
@@ -17,7 +19,7 @@ use crate::numbers::{LAST_TICK, TICK};
 use carv_objects::Refusal;
 use carv_scheduler_spec::{Results, State, Wait};
 
-// The budget id, if it is live, is charged a tick, or all that is left.
+// The budget id, if it is live, is charged a tick, or all that is left. Lends the registry's part, as the functions of registry.rt.
 fn charge(a: &mut [u8], id: u64, time: u64)
     requires { WellFormed a.old }
     ensures { Leaves a.new (with_registry (charge_most id 1_000_000 time (decode a.old).registry) (decode a.old)) }

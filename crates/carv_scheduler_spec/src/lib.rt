@@ -50,7 +50,7 @@ impl Wait {
         Wait::from_code(kind, number).unwrap_or(Wait::Send(number))
     }
 
-    // The code of its kind.
+    // The code of its kind. A `match`: a variant with a number can't be cast.
     pub fn kind(self) -> u64
         ensures { result ≡ kind_of self }
     {

@@ -61,7 +61,7 @@ pub struct Reply {
     pub child: Account,
 }
 
-// The account in the seven words from word number k on.
+// The account in the seven words from word number k on. By field, as `rows::read_account` of carv_objects, which reads a table.
 #[tactic(auto, unfolding(crate::specs::Record::account))]
 fn account_at(bytes: &[u8; RECORD_BYTES], k: usize) -> Account
     requires { k + 7 ≤ 34 }

@@ -103,7 +103,7 @@ fn make(op: Op, call: Call) -> Reply
     }
 }
 
-// Whether the call gives the reply. One with an op that is not listed gives none.
+// Whether the call gives the reply. One with an op that is not listed gives none. Beside the other programs' `matches`: see replay_objects.
 pub fn matches(call: Call, reply: Reply) -> bool
     ensures { result ≡ agrees call reply }
 {

@@ -81,7 +81,8 @@ impl TryFrom<u64> for Op {
     }
 }
 
-// The call that a record tells of. Its op is the number as it was read. Its arguments are fields, since specs/Replay.antt says them by name, `c.first`, in each
+// The call that a record tells of. Beside `Call` of replay_objects: each has the words that its program's
+// records have. Its op is the number as it was read. Its arguments are fields, since specs/Replay.antt says them by name, `c.first`, in each
 // case of `Made`; an array would be read by number there.
 #[derive(Clone, Copy, Debug, PartialEq, Eq)]
 pub struct Call {

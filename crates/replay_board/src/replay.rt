@@ -70,7 +70,8 @@ fn make(area: &mut [u8], op: Op, call: Call, out: &mut [u64]) -> u64
     }
 }
 
-// Does the call of the record answer what the record says? One with a code that is not listed is not made and does not.
+// Does the call of the record answer what the record says? One with an op that is not listed is not made and does not. Beside the other
+// programs' `matches`: see replay_objects.
 fn matches(area: &mut [u8], bytes: &[u8; RECORD_BYTES]) -> bool
     ensures { Agrees bytes.now 0 area.old result area.new }
 {
@@ -83,7 +84,8 @@ fn matches(area: &mut [u8], bytes: &[u8; RECORD_BYTES]) -> bool
     is_recorded(bytes, number, &out)
 }
 
-// The board that the calls are made on. It tells on rt which differ; where that can't be written, the count goes on all the same.
+// The board that the calls are made on. It tells on rt which differ; where that can't be written, the count goes on all the same. Nothing
+// prints, compares or copies it.
 #[derive(Drop)]
 pub struct Board<'a, P> {
     pub area: [u8; BYTES],

@@ -50,7 +50,8 @@ impl TryFrom<u64> for Op {
     }
 }
 
-// The call that a record tells of. Its op is the number as it was read. Its arguments are fields, since specs/Replay.antt says them by name, `c.first`, in each case of `Made`; an
+// The call that a record tells of. Beside `Call` of replay_board: each has the words that its program's records have. Its op is the number
+// as it was read. Its arguments are fields, since specs/Replay.antt says them by name, `c.first`, in each case of `Made`; an
 // array would be read by number there.
 #[derive(Clone, Copy, Debug, PartialEq, Eq)]
 pub struct Call {
@@ -61,8 +62,8 @@ pub struct Call {
     pub fourth: u64,
 }
 
-// An answer: its number, as it was recorded or as `Refusal` has it, and its values, as many as it has, the rest 0. These are fields, since `told` in specs/Replay.antt
-// and the comparison there say them by name.
+// An answer: its number, as it was recorded or as `Refusal` has it, and its values, as many as it has, the rest 0. These are fields, since
+// `told` in specs/Replay.antt and the comparison there say them by name.
 #[derive(Clone, Copy, Debug, PartialEq, Eq, Default)]
 pub struct Reply {
     pub number: u64,

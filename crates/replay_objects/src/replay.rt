@@ -63,6 +63,7 @@ impl Told for bool {
 impl Told for Account {
     ghost tells = { answer.account_of };
 
+    // By field: `words` would first be taken apart into seven names.
     fn reply(self) -> Reply {
         Reply {
             number: 0,
@@ -138,7 +139,8 @@ fn make(area: &mut [u8], op: Op, call: Call) -> Reply
     }
 }
 
-// Whether the call answers the reply. The `matches` of the three programs share their first lines alone: what is called and compared differs. One with an op that is not listed is not made and answers none.
+// Whether the call answers the reply. A call whose op is not listed is not made, and answers none. The `matches` of the three programs share
+// the question whether the op is listed alone: what is called and compared differs.
 fn matches(area: &mut [u8], call: Call, reply: Reply) -> bool
     ensures { Agrees call reply area.old result area.new }
 {
@@ -148,7 +150,7 @@ fn matches(area: &mut [u8], call: Call, reply: Reply) -> bool
     make(area, op, call) == reply
 }
 
-// The registry that the calls are made on.
+// The registry that the calls are made on. Nothing prints, compares or copies it.
 #[derive(Drop)]
 pub struct Registry {
     pub area: [u8; carv_objects::BYTES],

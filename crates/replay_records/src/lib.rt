@@ -160,6 +160,7 @@ fn differences<const SIZE: usize, P: Replay<SIZE>>(
     ensures few { result ≤ length block.now / SIZE }
 {
     let (records, _cut) = block.as_chunks::<SIZE>();
+    // A loop, and no `filter` and `count`: the closure would change the program, and a proof knows nothing of what it left.
     let mut count = 0;
     for (i, bytes) in records.iter().enumerate() {
         if !program.replay(bytes) {

@@ -1,5 +1,5 @@
 -- The answer words of each value, written out: which word tells what, in the order of docs/LAYOUT.md. Assumes nothing.
-use Rattle.std.specs.Prelude.{◌≡◌, refl, Bool, true, false, [], ◌∷◌, ℕ, Option, Some, None}
+use Rattle.std.specs.Prelude.{◌≡◌, refl, Bool, true, false, [], ◌∷◌, ℕ, Some, None}
 use Rattle.std.proofs.lemmas.Bool.{false≢true}
 use Rattle.carv_budget.specs.declared.Account.{Account}
 use Rattle.carv_objects_spec.specs.declared.Totals.{Totals}

@@ -225,6 +225,8 @@ pub record Listed : Type 0 where
       × (state_listed 5 0 0 ≡ true) × (state_listed 6 0 0 ≡ false)
   -- "Waits: 1 Send, 2 Recv, 3 Reply, 4 Notification, 5 Sleep, each with a 64-bit number": the wait of a Blocked thread
   pub waits : (wait 1 3 ≡ Send 3) × (wait 2 3 ≡ Recv 3) × (wait 3 3 ≡ Reply 3) × (wait 4 3 ≡ Notification 3) × (wait 5 3 ≡ Sleep 3)
+  -- another reads as a send, which no tick wakes
+  pub unlisted_waits : (wait 0 3 ≡ Send 3) × (wait 6 3 ≡ Send 3)
   pub wait_codes : (state_listed 4 0 3 ≡ false) × (state_listed 4 1 3 ≡ true) × (state_listed 4 5 3 ≡ true) × (state_listed 4 6 3 ≡ false)
   -- a Ready thread has no wait, nor a wait's number
   pub no_waits : (state_listed 2 5 0 ≡ false) × (state_listed 2 0 3 ≡ false)
@@ -242,6 +244,7 @@ listed_hold = record {
   states = (refl, refl, refl, refl, refl);
   state_codes = (refl, refl, refl, refl, refl, refl);
   waits = (refl, refl, refl, refl, refl);
+  unlisted_waits = (refl, refl);
   wait_codes = (refl, refl, refl, refl);
   no_waits = (refl, refl);
   budgets = (refl, refl, refl, refl);

@@ -1,35 +1,21 @@
 -- `carv_scheduler::calls::block_current` meets its contract. Assumes nothing.
-use Rattle.std.proofs.Common.{sym, refl, ◌∙◌, arith}
-use Rattle.carv_scheduler.proofs.Rules.{met, missed}
-use Rattle.std.proofs.lemmas.Grind.{common_steps}
-use Rattle.carv_scheduler_spec.proofs.Laws.Codes.{wait_unlisted, wait_known, wait_named}
-use Rattle.carv_objects.specs.declared.refusal.Refusal.TheVariants.{Code, State}
+use Rattle.std.proofs.Common.{refl, ◌∙◌}
+use Rattle.carv_scheduler.proofs.Rules.{met}
+use Rattle.carv_scheduler_spec.proofs.Laws.Codes.{wait_known, wait_named}
 use Rattle.carv_scheduler_spec.proofs.Laws.Kept.{block_current_kept}
 use Rattle.carv_scheduler_spec.specs.Scheduler.{running}
-use Rattle.carv_scheduler_spec.proofs.Laws.Equal.{equal_running, differs, agrees}
+use Rattle.carv_scheduler_spec.proofs.Laws.Equal.{equal_running, agrees}
 use Rattle.carv_scheduler.specs.Laws.Formed.{leaves_as}
 use Rattle.carv_scheduler.specs.Laws.AreaLaws.{area_formed, area_sound}
-use Rattle.carv_scheduler.specs.Laws.Calls.{refused, refused_by, answered}
+use Rattle.carv_scheduler.specs.Laws.Calls.{answered}
 use Rattle.carv_scheduler.specs.Laws.CallSteps.{here_state, blocked_current}
-use Rattle.carv_scheduler_spec.proofs.Laws.Questions.{block_unlisted, block_other, block_idle, block_done}
+use Rattle.carv_scheduler_spec.proofs.Laws.Questions.{block_done}
 use Rattle.carv_scheduler.specs.Area.{decode}
 use Rattle.carv_scheduler.proofs.calls.block_current.Goals as goal
-use Rattle.carv_scheduler.proofs.calls.block_current.Goals.{then-ne-via-then-ne, then-ne-via-else-ne+then-current}
-
-pub returns-in_err-wait : goal.returns-in_err-wait
-returns-in_err-wait c =
-    refused_by _ _ c.requires Code (block_unlisted c.args.kind c.args.number (decode c.args.a.now) (wait_unlisted c.args.kind c.args.number c.from_code.result c.from_code.ensures (missed c.ok_or.ensures.ok_part c.in_err-wait.was))) _ (grind (arith, common_steps))
 
 pub state_at-requires-clause-well_formed : goal.state_at-requires-clause-well_formed
 state_at-requires-clause-well_formed c =
     area_formed _ c.requires
-
-pub returns-then-ne : goal.returns-then-ne
-returns-then-ne c =
-    refused _ _ c.requires State (elim c.then-ne.branch [
-      | then-ne-via-then-ne w ↦ block_other c.args.kind c.args.number (decode c.args.a.now) (wait_known c.args.kind c.args.number c.from_code.result c.from_code.ensures _ (met c.ok_or.ensures.ok_part c.in_ok-wait.was)) (here_state (decode c.args.a.now).threads _ _ c.current_place-i.ensures running _ c.state_at.ensures ∙ differs _ _ _ c.ne.ensures (equal_running c.state_at.result) w.if-ne.true)
-      | then-ne-via-else-ne+then-current w ↦ block_idle c.args.kind c.args.number (decode c.args.a.now) (wait_known c.args.kind c.args.number c.from_code.result c.from_code.ensures _ (met c.ok_or.ensures.ok_part c.in_ok-wait.was)) (here_state (decode c.args.a.now).threads _ _ c.current_place-i.ensures running _ c.state_at.ensures ∙ agrees _ _ _ c.ne.ensures (equal_running c.state_at.result) w.if-ne.false) (sym w.current.ensures ∙ w.if-current.true)
-    ])
 
 pub current-requires : goal.current-requires
 current-requires c =

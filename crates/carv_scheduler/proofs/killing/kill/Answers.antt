@@ -1,29 +1,15 @@
 -- `carv_scheduler::killing::kill` meets its contract. Assumes nothing.
-use Rattle.std.proofs.Common.{arith}
-use Rattle.std.proofs.lemmas.Grind.{common_steps}
-use Rattle.carv_scheduler.proofs.Rules.{met, missed}
-use Rattle.carv_scheduler_spec.proofs.Laws.Codes.{cause_unlisted, cause_known, cause_named}
+use Rattle.carv_scheduler.proofs.Rules.{met}
+use Rattle.carv_scheduler_spec.proofs.Laws.Codes.{cause_known, cause_named}
 use Rattle.carv_scheduler.specs.Laws.AreaLaws.{area_formed}
-use Rattle.carv_scheduler.specs.Laws.Places.{found_here, found_gone, gone_has}
-use Rattle.carv_scheduler.specs.Laws.KillSteps.{unlisted_served, idle_served, missing_served, kill_distinct, kill_served}
+use Rattle.carv_scheduler.specs.Laws.Places.{found_here}
+use Rattle.carv_scheduler.specs.Laws.KillSteps.{kill_distinct, kill_served}
 use Rattle.carv_scheduler.specs.Area.{decode}
 use Rattle.carv_scheduler.proofs.killing.kill.Goals as goal
-
-pub returns-in_err-cause : goal.returns-in_err-cause
-returns-in_err-cause c =
-    unlisted_served c.args.a.now c.requires c.args.id c.args.cause (cause_unlisted c.args.cause c.from_code.result c.from_code.ensures (missed c.ok_or.ensures.ok_part c.in_err-cause.was)) _ (grind (arith, common_steps))
-
-pub returns-then-id-eq-IDLE : goal.returns-then-id-eq-IDLE
-returns-then-id-eq-IDLE c =
-    idle_served c.args.a.now c.requires c.args.id c.args.cause (cause_known c.args.cause c.from_code.result c.from_code.ensures _ (met c.ok_or.ensures.ok_part c.in_ok-cause.was)) c.if-id-eq-IDLE.true
 
 pub find_thread-requires : goal.find_thread-requires
 find_thread-requires c =
     area_formed _ c.requires
-
-pub returns-in_err-i : goal.returns-in_err-i
-returns-in_err-i c =
-    missing_served c.args.a.now c.requires c.args.id c.args.cause (cause_known c.args.cause c.from_code.result c.from_code.ensures _ (met c.ok_or.ensures.ok_part c.in_ok-cause.was)) c.if-id-eq-IDLE.false (gone_has _ _ (found_gone (decode c.args.a.now).threads _ _ c.find_thread.ensures (missed c.ok_or-2.ensures.ok_part c.in_err-i.was))) _ (grind (arith, common_steps))
 
 pub state_at-state-requires-clause-well_formed : goal.state_at-state-requires-clause-well_formed
 state_at-state-requires-clause-well_formed c =

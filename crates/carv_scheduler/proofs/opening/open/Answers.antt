@@ -1,15 +1,7 @@
 -- `carv_scheduler::opening::open` meets its contract. Assumes nothing.
-use Rattle.carv_scheduler.specs.Laws.Opening.{board_opened, opened_size, opened_share, opened_done}
+use Rattle.carv_scheduler.specs.Laws.Opening.{board_opened, opened_done}
 use Rattle.carv_scheduler.specs.Laws.Formed.{unchanged}
 use Rattle.carv_scheduler.proofs.opening.open.Goals as goal
-
-pub returns-then-area-ne-BYTES : goal.returns-then-area-ne-BYTES
-returns-then-area-ne-BYTES c =
-    opened_size _ _ _ c.if-area-ne-BYTES.true
-
-pub returns-then-cpu-gt-PERIOD : goal.returns-then-cpu-gt-PERIOD
-returns-then-cpu-gt-PERIOD c =
-    opened_share _ _ _ c.if-area-ne-BYTES.false c.if-cpu-gt-PERIOD.true
 
 pub returns : goal.returns
 returns c =

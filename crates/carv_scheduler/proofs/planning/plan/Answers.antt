@@ -1,12 +1,8 @@
 -- `carv_scheduler::planning::plan` meets its contract. Assumes nothing.
 use Rattle.std.proofs.Common.{refl}
 use Rattle.carv_scheduler.specs.Laws.AreaLaws.{area_formed}
-use Rattle.carv_scheduler.specs.Laws.PlanSteps.{plan_refused, planned}
+use Rattle.carv_scheduler.specs.Laws.PlanSteps.{planned}
 use Rattle.carv_scheduler.proofs.planning.plan.Goals as goal
-
-pub returns-then-n-gt-LAST_TICK : goal.returns-then-n-gt-LAST_TICK
-returns-then-n-gt-LAST_TICK c =
-    plan_refused _ c.requires _ c.if-n-gt-LAST_TICK.true
 
 pub current-old-requires : goal.current-old-requires
 current-old-requires c =

@@ -3,16 +3,12 @@ use Rattle.std.proofs.Common.{true≢false, arith}
 use mathlib.Core.Bool.{false≢true}
 use Rattle.carv_area.specs.Words.{words}
 use Rattle.carv_area.specs.Laws.Words.{word_below}
-use Rattle.carv_scheduler.specs.Laws.SoundRows.{order_none, order_first, order_more, order_off, order_all}
+use Rattle.carv_scheduler.specs.Laws.SoundRows.{order_none, order_more, order_off, order_all}
 use Rattle.carv_scheduler.proofs.sound.ids_rise.Goals as goal
 
 pub returns-then-n-eq0 : goal.returns-then-n-eq0
 returns-then-n-eq0 c =
     record { so = λ e. order_none (words c.args.t.now) (λ k. word_below c.args.t.now k c.fits-t) (omega arith); not = λ e. absurd (true≢false e) }
-
-pub loop-i-init : goal.loop-i-init
-loop-i-init c =
-    order_first (words c.args.t.now) _ _ c.if-n-eq0.false c.get-before.ensures
 
 pub returns-then-id-before : goal.returns-then-id-before
 returns-then-id-before c =

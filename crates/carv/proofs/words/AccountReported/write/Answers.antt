@@ -1,5 +1,0 @@
--- `carv::words::AccountReported::write` meets its contract. Assumes nothing.
-use Rattle.carv.proofs.words.AccountReported.write.Goals as goal
-
-pub returns : goal.returns
-returns c = rw c.words.ensures at c.write_words.ensures
