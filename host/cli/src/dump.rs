@@ -35,6 +35,8 @@ pub fn dump(kept: &Kept, out: &mut Output) -> Result<Status, Failure> {
             ))?;
         }
         out.text(text(&file.bytes, &names))?;
+        out.flush()?;
+        kept_names::tell(kept);
     }
     Ok(if is_sound {
         Status::Fine

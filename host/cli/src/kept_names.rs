@@ -26,6 +26,17 @@ pub fn of(kept: &Kept) -> Names {
     }
 }
 
+/// Tells of names beside a board that is looked at, if they aren't asked for.
+pub fn tell(kept: &Kept) {
+    let path = path(&kept.path);
+    if !kept.with_names && path.is_file() {
+        say(format_args!(
+            "carv: budgets have names in {}; --names shows them",
+            path.display()
+        ));
+    }
+}
+
 /// The names beside a board's file, none if there are none. What is wrong with them is said.
 pub fn read(board: &Path) -> Names {
     let path = path(board);

@@ -134,6 +134,7 @@ const REPORT: &[(&str, bool)] = &[
     ("--html", true),
     ("--from", true),
     ("--title", true),
+    ("--trace", true),
     ("--bad-lines", true),
     ("--board", true),
 ];
@@ -230,6 +231,7 @@ fn report(mut given: Given) -> Result<Command, Failure> {
         html: given.path("--html"),
         from: from(&given)?,
         title: given.text("--title")?,
+        trace: given.path("--trace"),
         report: Some(form),
         ..Replay::default()
     };

@@ -235,7 +235,7 @@ impl Run<'_> {
         }
         if let Some(form) = self.options.report {
             report::print(form, &self.watch, &self.summary, self.out)?;
-            self.write_page()?;
+            self.write_files()?;
             return Ok(self.summary.status());
         }
         if self.options.dump {

@@ -14,11 +14,20 @@ use carv_watch::Doing;
 /// Runs the day that is planned. A service that the board refuses stays off; any other refusal ends
 /// the day.
 pub fn run(plan: &Plan) -> Result<Day, Refusal> {
+    let day = run_while(plan, || true)?;
+    Ok(day.expect("nothing ends it before its time"))
+}
+
+/// The same, as long as it is to go on, which is asked before each tick; none if it isn't.
+pub fn run_while(plan: &Plan, goes_on: impl Fn() -> bool) -> Result<Option<Day>, Refusal> {
     let mut sorter = Sorter::open(plan)?;
     for tick in FIRST..=plan.last() {
+        if !goes_on() {
+            return Ok(None);
+        }
         sorter.tick(tick)?;
     }
-    sorter.close()
+    sorter.close().map(Some)
 }
 
 /// A job: when it comes, and its ms.

@@ -19,7 +19,7 @@ Runs a day in small of the coin sorter on the port's board. Without --day it is 
 counting, reject gate, bag printer, display and upload, each with a share of every 10 ms and a
 memory limit, for 3 s of board time in ticks of 1 ms. A day file always gives the same day.
 
-usage: sorter [--svg PATH] [--from MS] [--calls PATH] [--html PATH] [--day FILE]
+usage: sorter [--svg PATH] [--from MS] [--calls PATH] [--html PATH] [--trace PATH] [--day FILE]
        sorter --print-day [NAME]
        sorter --help
 
@@ -33,13 +33,17 @@ usage: sorter [--svg PATH] [--from MS] [--calls PATH] [--html PATH] [--day FILE]
               one call a line, its name and numbers as in include/carv.h
 --html PATH   also writes a report on the day as one page for browser and paper, with all figures,
               the picture, and a stamp of what the library was proved with
+--trace PATH  also writes what ran when as a trace; to see it, drop it on https://ui.perfetto.dev or
+              load it in chrome://tracing
 
 What it prints: a diary of the day; a table of what each service got of every 10 ms, on average
-and at most, against its share; in how many periods it missed something (it wanted more than it got
-although it had time) or was held back (it had work and no time left); its longest wait from ready
-to run; and its memory, with all that is carved out of it. Then the most that each budget spent in
-a period, with all below it, by the calls and their refusals alone; checks, each answered with yes
-or NO; and whether the watched service got its share in every period in which it wanted it.
+and at most, against its share, in how many periods it was held back (it had work and no time
+left), and its memory, with all that is carved out of it; a table of how many periods it missed
+(it wanted more than it got although it had time), how many it used up, and in how many it wanted
+no more, with the first and the worst missed period and its longest wait from ready to run. Then
+the most that each budget spent in a period, with all below it, by the calls and their refusals
+alone; checks, each answered with yes or NO; and whether the watched service got its share in
+every period in which it wanted it.
 
 To try something else:
 
@@ -119,5 +123,6 @@ const STATUSES: &str = "\
 Exit status: 0 if the day went as planned: every service was switched on when it should be, and all
 checks hold; 3 if not: a service was refused, or what the file expects doesn't hold; 1 if another
 check doesn't hold, or a file can't be read or written; 2 if called wrongly, or if the day file has
-bad lines, which are told. What somebody asks for (`ask`) may be refused without that.
+bad lines, which are told; 130 if Ctrl-C ended it before the day was over: then no file is written.
+What somebody asks for (`ask`) may be refused without that.
 ";

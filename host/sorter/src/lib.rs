@@ -4,7 +4,8 @@
 //! happens; [`plan`] has it as values. [`day`] runs it on a [`carv::Board`] and lists the calls,
 //! [`record`] is what was seen of it: a [`carv_watch::Timeline`] with what each service did in each
 //! millisecond, and the [`carv_ledger::Ledger`] of what each budget spent; [`report`] sums that up in
-//! words, [`picture`] draws it. [`read`], [`options`] and [`help`] are of the program.
+//! words, [`picture`] draws it, [`page`] and [`trace`] write it for browsers. [`read`], [`options`] and
+//! [`help`] are of the program.
 
 mod calls;
 pub mod day;
@@ -19,4 +20,5 @@ pub mod record;
 pub mod refused;
 pub mod report;
 mod setup;
+pub mod trace;
 mod words;

@@ -1,6 +1,6 @@
-//! Runs a day, prints its account, and writes its picture, its calls and its page.
+//! Runs a day, prints its account, and writes its picture, its calls, its page and its trace.
 
-use carv_files::{OutputFile, apart};
+use carv_files::{CannotWrite, OutputFile, apart};
 use carv_picture::SHOWN;
 use sorter::dayfile::{self, Mistakes};
 use sorter::help::help;
@@ -10,7 +10,7 @@ use sorter::picture::{self, begins};
 use sorter::plan::Plan;
 use sorter::record::Day;
 use sorter::report::{self, About};
-use sorter::{day, read};
+use sorter::{day, read, trace};
 use std::ffi::OsString;
 use std::io::{ErrorKind, Write};
 use std::path::{Path, PathBuf};
@@ -49,6 +49,11 @@ fn called_wrongly(why: String) -> Failure {
     Failure(CALLED_WRONGLY, format!("{why}{end} see sorter --help"))
 }
 
+fn interrupted() -> Failure {
+    let says = "interrupted before the day was over: no file is written";
+    Failure(carv_interrupt::STATUS, says.to_string())
+}
+
 /// Does what is to be done, and answers the exit status.
 fn run(command: &Command) -> Result<u8, Failure> {
     match command {
@@ -62,9 +67,11 @@ fn run(command: &Command) -> Result<u8, Failure> {
 fn run_day(options: &Options) -> Result<u8, Failure> {
     let plan = plan(options.day.as_deref())?;
     let from = from(options, &plan)?;
+    carv_interrupt::watch();
     let files = Files::prepare(options)?;
-    let day = day::run(&plan);
+    let day = day::run_while(&plan, || !carv_interrupt::is_asked());
     let day = day.map_err(|refusal| format!("{refusal}. {}", refusal.advice()))?;
+    let day = day.ok_or_else(interrupted)?;
     print(&(report::report(&day) + "\n\n"))?;
     write(files.svg, "The picture", || picture::draw(&day, from))?;
     if let Some(file) = files.calls {
@@ -72,6 +79,11 @@ fn run_day(options: &Options) -> Result<u8, Failure> {
     }
     if let Some(file) = files.html {
         write(file, "The page", || page::html(&day, from))?;
+    }
+    if let Some(file) = files.trace {
+        let path = file.path().to_path_buf();
+        let written = trace::write(&day, file);
+        told("The trace", &path, written)?;
     }
     Ok(status(&day))
 }
@@ -81,16 +93,19 @@ struct Files {
     svg: OutputFile,
     calls: Option<OutputFile>,
     html: Option<OutputFile>,
+    trace: Option<OutputFile>,
 }
 
 impl Files {
     /// Prepares them before the day is run. None of them may be the day file, or another of them.
     fn prepare(options: &Options) -> Result<Self, Failure> {
-        let (svg, calls, html) = ("the picture", "the list of calls", "the page");
+        let (svg, calls) = ("the picture", "the list of calls");
+        let (html, trace) = ("the page", "the trace");
         let written = [
             (svg, Some(&options.svg)),
             (calls, options.calls.as_ref()),
             (html, options.html.as_ref()),
+            (trace, options.trace.as_ref()),
         ];
         let written = written
             .into_iter()
@@ -109,10 +124,12 @@ impl Files {
         };
         let calls = options.calls.as_ref().map(|path| prepare(calls, path));
         let html = options.html.as_ref().map(|path| prepare(html, path));
+        let trace = options.trace.as_ref().map(|path| prepare(trace, path));
         Ok(Self {
             svg: prepare(svg, &options.svg)?,
             calls: calls.transpose()?,
             html: html.transpose()?,
+            trace: trace.transpose()?,
         })
     }
 }
@@ -169,10 +186,14 @@ fn status(day: &Day) -> u8 {
 
 /// Writes a file and says so.
 fn write(file: OutputFile, what: &str, text: impl FnOnce() -> String) -> Result<(), Failure> {
-    let path = file.path().display().to_string();
-    let written = file.finish_with(text().as_bytes());
+    let path = file.path().to_path_buf();
+    told(what, &path, file.finish_with(text().as_bytes()))
+}
+
+/// Says where a file is, if it could be written.
+fn told(what: &str, path: &Path, written: Result<(), CannotWrite>) -> Result<(), Failure> {
     written.map_err(|why| Failure(FAILED, why.to_where()))?;
-    print(&format!("{what} is in {path}.\n"))
+    print(&format!("{what} is in {}.\n", path.display()))
 }
 
 /// Prints to standard output. If its reader has gone, the rest is for nobody.

@@ -29,15 +29,18 @@ pub struct Options {
     pub calls: Option<PathBuf>,
     /// Where the report is written as a page.
     pub html: Option<PathBuf>,
+    /// Where the trace is written.
+    pub trace: Option<PathBuf>,
 }
 
-const NAMES: [&str; 7] = [
+const NAMES: [&str; 8] = [
     "--day",
     "--print-day",
     "--svg",
     "--from",
     "--calls",
     "--html",
+    "--trace",
     "--help",
 ];
 
@@ -67,6 +70,7 @@ fn options(arguments: &[OsString]) -> Result<Options, String> {
         from: None,
         calls: None,
         html: None,
+        trace: None,
     };
     let mut arguments = arguments.iter();
     while let Some(name) = arguments.next() {
@@ -78,6 +82,7 @@ fn options(arguments: &[OsString]) -> Result<Options, String> {
             "--from" => options.from = Some(value()?.to_string_lossy().into_owned()),
             "--calls" => options.calls = Some(PathBuf::from(value()?)),
             "--html" => options.html = Some(PathBuf::from(value()?)),
+            "--trace" => options.trace = Some(PathBuf::from(value()?)),
             "--help" | "-h" | "--print-day" => return Err(format!("{name} stands alone")),
             other => {
                 let near = suggestion(other, NAMES);

@@ -1,5 +1,6 @@
 //! The program: what it writes, and its exit status.
 
+use std::ffi::OsString;
 use std::io::Write;
 use std::path::Path;
 use std::process::{Command, Output, Stdio};
@@ -74,6 +75,7 @@ fn no_place_for_a_file() {
         ("--svg", "picture"),
         ("--calls", "list of calls"),
         ("--html", "page"),
+        ("--trace", "trace"),
     ] {
         let svg = Path::new(env!("CARGO_TARGET_TMPDIR")).join("of_no_place.svg");
         let _ = std::fs::remove_file(&svg);
@@ -86,6 +88,51 @@ fn no_place_for_a_file() {
     }
 }
 
+/// Ctrl-C ends a day, and leaves the files as they were and nothing beside them.
+#[test]
+fn ctrl_c_leaves_nothing() {
+    let folder = Path::new(env!("CARGO_TARGET_TMPDIR")).join("interrupted");
+    let _ = std::fs::remove_dir_all(&folder);
+    std::fs::create_dir(&folder).expect("a folder");
+    let services: String = (0..50)
+        .map(|number| format!("service s{number}: 0.2 ms, 64 KiB\nwork: always\n"))
+        .collect();
+    let day = format!("periods 10000\nboard 10 ms, 4 MiB\n{services}");
+    std::fs::write(folder.join("long.day"), day).expect("a day file");
+    std::fs::write(folder.join("old.svg"), "old").expect("a picture");
+    // It isn't started to ignore Ctrl-C, as what runs in the background may be.
+    let mut command = Command::new("env");
+    command.arg("--default-signal=INT");
+    command.arg(env!("CARGO_BIN_EXE_sorter"));
+    command.args([
+        "--day", "long.day", "--svg", "old.svg", "--html", "new.html",
+    ]);
+    command.current_dir(&folder);
+    let command = command.stdout(Stdio::piped()).stderr(Stdio::piped());
+    let mut child = command.spawn().expect("it starts");
+    let names = || {
+        let files = std::fs::read_dir(&folder).expect("the folder");
+        let names = files.map(|file| file.expect("a file").file_name());
+        let mut names: Vec<OsString> = names.collect();
+        names.sort();
+        names
+    };
+    while names().len() < 4 && child.try_wait().expect("a status").is_none() {
+        std::thread::sleep(std::time::Duration::from_millis(1));
+    }
+    let number = child.id().to_string();
+    let sent = Command::new("kill").args(["-INT", &number]).status();
+    assert!(sent.expect("kill runs").success());
+    let output = child.wait_with_output().expect("it ends");
+    assert_eq!(status(&output), Some(130));
+    assert_eq!(text(&output.stdout), "");
+    let says = "sorter: interrupted before the day was over: no file is written\n";
+    assert_eq!(text(&output.stderr), says);
+    assert_eq!(names(), ["long.day", "old.svg"]);
+    let old = std::fs::read(folder.join("old.svg")).expect("the picture");
+    assert_eq!(old, b"old");
+}
+
 /// No file is written over the day file, or over another.
 #[test]
 fn files_are_kept_apart() {
@@ -93,6 +140,7 @@ fn files_are_kept_apart() {
     for arguments in [
         ["--day", "apart.day", "--svg", "apart.day"],
         ["--svg", "apart.svg", "--html", "apart.svg"],
+        ["--svg", "apart.svg", "--trace", "apart.svg"],
     ] {
         let output = sorter(&arguments);
         assert_eq!(status(&output), Some(2), "{arguments:?}");
@@ -100,6 +148,38 @@ fn files_are_kept_apart() {
     }
     let day = Path::new(env!("CARGO_TARGET_TMPDIR")).join("apart.day");
     assert_eq!(std::fs::read(day).expect("the day file"), b"periods 1\n");
+}
+
+/// The trace is that of the day's list of calls, with the day's events.
+#[test]
+fn the_trace() {
+    let output = sorter(&[
+        "--svg",
+        "trace.svg",
+        "--calls",
+        "trace.calls",
+        "--trace",
+        "trace.json",
+    ]);
+    assert_eq!(status(&output), Some(0));
+    assert!(text(&output.stdout).ends_with("The trace is in trace.json.\n"));
+    let folder = Path::new(env!("CARGO_TARGET_TMPDIR"));
+    let trace = std::fs::read_to_string(folder.join("trace.json")).expect("the trace");
+    let (list, of_list) = (folder.join("trace.calls"), folder.join("of_list.json"));
+    let arguments = ["replay", "--silent", "--trace"].map(OsString::from);
+    let files = [of_list.clone().into(), list.into()];
+    let status = carv_cli::carv(&[&arguments[..], &files[..]].concat());
+    assert_eq!(status, carv_cli::status::Status::Refused);
+    let of_list = std::fs::read_to_string(of_list).expect("the trace of the list");
+    let events = trace.lines().filter(|line| !of_list.contains(line)).count();
+    assert_eq!(events, 7);
+    assert_eq!(trace.lines().count(), of_list.lines().count() + events);
+    for part in [
+        r#""name":"counting: thread 4""#,
+        r#""ts":2100000,"s":"t","name":"upload overruns: it now wants"#,
+    ] {
+        assert!(trace.contains(part), "{part}");
+    }
 }
 
 /// The page has the answers, the checks, what was planned and why a service stayed off.

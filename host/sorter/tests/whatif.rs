@@ -106,6 +106,28 @@ fn starving() {
     );
 }
 
+/// The table tells apart what was missed, used up and no more wanted, with the first and the worst
+/// missed period.
+#[test]
+fn the_table_of_missed_periods() {
+    let day = run(dayfile::DAYS[1].1);
+    let report = report(&day);
+    let (_, table) = report.split_once("wait, ms\n").expect("the table");
+    let rows: Vec<Vec<&str>> = table
+        .lines()
+        .take(3)
+        .map(|row| row.split_whitespace().collect())
+        .collect();
+    assert_eq!(
+        rows,
+        [
+            ["counting", "30", "0", "0", "30", "10", "20", "2", "3"],
+            ["display", "15", "15", "0", "30", "20", "20", "1", "3"],
+            ["upload", "15", "15", "0", "30", "10", "10", "1", "3"],
+        ]
+    );
+}
+
 /// What a planner tries first: 5 ms for counting fit, 6 ms don't.
 #[test]
 fn counting_gets_more() {

@@ -60,6 +60,15 @@ impl TraceFile {
         noted.map_err(|why| self.file.cannot(why))
     }
 
+    /// Something that happened, as [`Tracer::tell`].
+    ///
+    /// # Errors
+    /// As for [`begin`](Self::begin).
+    pub fn tell(&mut self, line: u64, text: &str) -> Result<(), CannotWrite> {
+        let told = self.tracer.tell(line, text);
+        told.map_err(|why| self.file.cannot(why))
+    }
+
     /// Ends the trace, and puts it in its place.
     ///
     /// # Errors

@@ -113,6 +113,15 @@ impl<W: Write> Tracer<W> {
         self.refusal(made)
     }
 
+    /// Something that happened, which no call tells of, with its line in the list: at the clock's time.
+    ///
+    /// # Errors
+    /// If the trace can't be written.
+    pub fn tell(&mut self, line: u64, text: &str) -> io::Result<()> {
+        let args = Json::object([("line", number(line))]);
+        self.instant(text.to_string(), args)
+    }
+
     /// Reads the board as it is now.
     fn read(&mut self, board: &Board) {
         let area = board.as_bytes();

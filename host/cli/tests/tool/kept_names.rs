@@ -24,6 +24,23 @@ fn names_are_kept_beside_the_board() {
     assert!(!ran.out.contains("counting"), "{}", ran.out);
 }
 
+/// Whoever sees budgets without their names is told how to see them.
+#[test]
+fn names_that_are_not_shown_are_told() {
+    let (board, names) = example("names-told.board");
+    let ran = carv(&["dump", text(&board)], "");
+    let told = format!(
+        "carv: budgets have names in {}; --names shows them\n",
+        names.display()
+    );
+    assert_eq!(ran.err, told);
+    for option in ["--names", "--json"] {
+        assert_eq!(carv(&["dump", text(&board), option], "").err, "");
+    }
+    std::fs::remove_file(&names).expect("the names");
+    assert_eq!(carv(&["dump", text(&board)], "").err, "");
+}
+
 /// What goes on with a board goes on with its names; the list may change them.
 #[test]
 fn a_replay_goes_on_with_them() {

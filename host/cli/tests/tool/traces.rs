@@ -34,6 +34,16 @@ fn a_trace_is_written() {
     }
 }
 
+/// A report writes the same one.
+#[test]
+fn a_report_writes_one() {
+    let (of_replay, of_report) = (scratch("of-replay.json"), scratch("of-report.json"));
+    carv(&["replay", "--trace", text(&of_replay)], EXAMPLE);
+    let ran = carv(&["report", "--trace", text(&of_report)], EXAMPLE);
+    assert_eq!((ran.status, ran.err.as_str()), (3, ""));
+    assert_eq!(trace(&of_report), trace(&of_replay));
+}
+
 #[test]
 fn a_bad_line_ends_it() {
     let path = scratch("bad.json");

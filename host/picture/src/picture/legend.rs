@@ -9,6 +9,9 @@ use crate::svg::{Anchor, Area};
 use carv::TICK_NS;
 use carv_watch::{Doing, PLACES, Part};
 
+/// The room behind a text of a legend, also for fonts that are wider than [`width`] says.
+const BEHIND: f64 = 22.0;
+
 /// A sign in a legend.
 pub enum Sign {
     /// None, only a text.
@@ -72,7 +75,7 @@ impl Sheet {
             self.sign((x, y), sign);
             let at = (x + sign.width() + 6.0, y);
             self.svg.text(at, Anchor::Start, SMALL, meaning);
-            x += needed + 14.0;
+            x += needed + BEHIND;
         }
         y
     }

@@ -65,6 +65,30 @@ fn few_ticks() {
     has(&svg, "in 1 period</text>");
 }
 
+/// Where a text stands last.
+fn place_of(svg: &str, text: &str) -> f64 {
+    let text = format!(">{text}</text>");
+    let (front, _) = svg.rsplit_once(&text).expect("the text");
+    let (_, place) = front.rsplit_once("<text x=\"").expect("a place");
+    let (place, _) = place.split_once('"').expect("its end");
+    place.parse().expect("a number")
+}
+
+/// Behind a text of a legend there is room before the next sign, also in a font that is a sixth wider
+/// than most.
+#[test]
+fn signs_keep_off_the_texts_before_them() {
+    let svg = drawn("legend", &starving(35).timeline, None);
+    const SIGN: f64 = 7.0 + 6.0;
+    let (text, next) = (
+        "shown above",
+        "partial: on, or seen, for a part of the time",
+    );
+    let wide = text.len() as f64 * 11.0 * 0.53 * 7.0 / 6.0;
+    let room = place_of(&svg, next) - place_of(&svg, text) - wide - SIGN;
+    assert!(room >= 10.0, "{room}");
+}
+
 /// Who starves ran least, and is drawn nevertheless.
 #[test]
 fn many_budgets_and_one_that_starves() {

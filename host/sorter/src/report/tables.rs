@@ -4,10 +4,10 @@ use super::checks::has_parts_of_ms;
 use super::{Totals, WIDTH};
 use crate::plan::Service;
 use crate::record::{Day, Noted, Spent};
-use carv::PERIOD_NS;
+use carv::{PERIOD_NS, TICK_NS};
 use carv_ledger::Most;
 use carv_text::figures::{grouped, ms, wrapped};
-use carv_watch::Total;
+use carv_watch::{MissedPeriod, Total};
 
 /// The narrowest column of names.
 const NAMES: usize = 12;
@@ -85,39 +85,66 @@ fn row_without_budget(names: usize, name: &str, share: &str, total: &Total) -> S
     )
 }
 
-/// What each service missed, and how long it waited.
+/// How the periods of each service went: which it missed, and how long it waited.
 pub fn missed(day: &Day) -> Vec<String> {
     let services = &day.plan.services;
     let names = width(services.iter().map(|service| service.name.as_str()));
     let mut lines = vec![
-        "  The periods in which each service missed something, and its longest wait:".to_string(),
-        String::new(),
         format!(
-            "  {:<names$}{:>7}{:>10}{:>12}",
-            "service", "missed", "of", "wait, ms"
+            "  {:<names$}{:^40}{:^23}{:>10}",
+            "", "periods", "missed, ms", "longest"
+        ),
+        format!(
+            "  {:<names$}{:>7}{:>9}{:>16}{:>8}{:>9}{:>9}{:>5}{:>10}",
+            "service",
+            "missed",
+            "used up",
+            "wanted no more",
+            "of",
+            "first",
+            "worst",
+            "by",
+            "wait, ms"
         ),
     ];
     let totals = Totals::of(day).services;
     for ((total, noted), service) in totals.iter().zip(&day.noted).zip(services) {
         if noted.was_on {
-            lines.push(format!(
-                "  {:<names$}{:>7}{:>10}{:>12}",
-                service.name,
-                total.periods_missed(),
-                total.periods_on,
-                grouped(total.longest_wait.map_or(0, |wait| wait.ms))
-            ));
+            lines.push(missed_row(names, &service.name, total));
         }
     }
     lines.push(String::new());
     let notes = [
-        "Missed: it wanted more than it got although it had time. Held back: it had used its share \
-         up and wanted more.",
+        "Missed: it wanted more than it got although it had time. Used up: else, if it used all of \
+         its share or was held back. Held back: it had used its share up and wanted more.",
+        "Of: periods that were seen as a whole, and at whose end it was on.",
+        "First, worst: where that missed period begins; by: what it missed in the worst.",
         "The longest wait is from ready to run, held back or not.",
     ];
     let notes = notes.iter().flat_map(|note| wrapped(note, WIDTH));
     lines.extend(notes.map(|line| format!("  {line}")));
     lines
+}
+
+/// The row of a service.
+fn missed_row(names: usize, name: &str, total: &Total) -> String {
+    let start = |period: MissedPeriod| grouped(period.number * (PERIOD_NS / TICK_NS));
+    let (first, worst, by) = match total.missed {
+        Some(missed) => (
+            start(missed.first),
+            start(missed.worst),
+            ms(missed.worst.missed_ns),
+        ),
+        None => ("-".to_string(), "-".to_string(), "-".to_string()),
+    };
+    format!(
+        "  {name:<names$}{:>7}{:>9}{:>16}{:>8}{first:>9}{worst:>9}{by:>5}{:>10}",
+        grouped(total.periods_missed()),
+        grouped(total.periods_used_up),
+        grouped(total.periods_wanted_no_more),
+        grouped(total.periods_judged),
+        grouped(total.longest_wait.map_or(0, |wait| wait.ms))
+    )
 }
 
 /// What the table means, and why services stayed off.

@@ -158,6 +158,25 @@ fn counters() {
     assert_eq!(removed.map(|it| it.at_ns), Some(3_500_001));
 }
 
+/// What the program tells stands at the clock's time, as the list has it.
+#[test]
+fn what_is_told() {
+    let mut file = Vec::new();
+    let mut run = Run::new(&mut file, Board::unopened());
+    for line in ["open 10_000_000 1_000", "tick 3"] {
+        run.line(line);
+    }
+    let told = run.tracer.tell(3, "the rush \"begins\"");
+    told.expect("memory takes it");
+    run.line("tick 4");
+    run.finish();
+    let trace = Trace::read(str::from_utf8(&file).expect("UTF-8"));
+    assert_eq!(trace.happened(), ["board opened", "the rush \"begins\""]);
+    let told = trace.instants.last().expect("what was told");
+    assert_eq!(told.at_ns, 3_000_000);
+    assert_eq!(told.args.get("line").map(|line| line.whole()), Some(3));
+}
+
 /// A CPU charge that is refused with 12 may renew, and its time counts; another refusal's doesn't.
 #[test]
 fn refused_calls() {
