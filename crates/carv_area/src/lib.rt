@@ -13,7 +13,7 @@ ghost use Rattle.carv_area.specs.Stored.{Queue};
 
 mod table;
 
-pub use table::Table;
+pub use table::{Table, find, find_near, rank};
 
 // ---- words
 

@@ -2,12 +2,13 @@
 use Rattle.std.specs.Prelude.{◌≡◌, Bool, true, false, List, [], ◌∷◌, ◌++◌, map, ℕ, eqb, get_or, set, Result, Ok, Err, Option, Some, None}
 use Rattle.carv_budget.specs.declared.Account.{Account}
 use Rattle.carv_budget.specs.declared.BudgetError.{BudgetError}
+use Rattle.carv_budget.specs.declared.BudgetError.TheVariants.{CpuLimitReached}
 use Rattle.carv_budget.specs.declared.Outcome.{Outcome}
 use Rattle.carv_budget.specs.Account as account
 use Rattle.carv_budget.specs.Account.{sound}
 use Rattle.carv_budget.specs.Rust as rust
 use Rattle.carv_budget.specs.Rust.{ok, err}
-use Rattle.carv_budget.specs.Replies.{error, refill_of, charge_of, outcome_of}
+use Rattle.carv_budget.specs.Replies.{error}
 
 -- A caller keeps the accounts that calls give it in places 0, 1, 2, .., as they come, and holds none at first: only an opening gives the first. A place is
 -- empty once its account was returned, and is not used again. Calls name accounts by place.
@@ -127,13 +128,28 @@ abbrev pub own : (id : ℕ) → (parent_id : Option ℕ) → Bool
 own id None = false
 own id (Some p) = eqb p id
 
+-- What a method's result is as an answer. Apart from `renewal`, `plain` and `said`, which are document 01's.
+
+abbrev pub rust_renewed : Bool → Answer
+rust_renewed true = renewed
+rust_renewed false = not_due
+
+-- `charge_cpu` answers whether the time was left
+abbrev pub rust_charged : Bool → Answer
+rust_charged true = done
+rust_charged false = refused CpuLimitReached
+
+abbrev pub rust_done : rust.Result (Unit {0}) → Answer
+rust_done (ok _) = done
+rust_done (err e) = refused (error e)
+
 abbrev pub rust_opened : rust.Result Account → Places Budget → Reply Budget
 rust_opened (ok a) t = answered done (add (budget None a) t)
 rust_opened (err e) t = answered (refused (error e)) t
 
-abbrev pub rust_changed : {T : Type 0} → (T → Answer) → (i : ℕ) → (Account → Outcome T) → Option Budget → Places Budget → Reply Budget
-rust_changed say i f None t = uncalled t
-rust_changed say i f (Some b) t = answered (said say (f b.figures).answer) (put i (budget b.parent_id (f b.figures).account) t)
+abbrev pub rust_changed : {R : Type 0} → (R → Answer) → (i : ℕ) → (Account → rust.Call R) → Option Budget → Places Budget → Reply Budget
+rust_changed says i f None t = uncalled t
+rust_changed says i f (Some b) t = answered (says (f b.figures).result) (put i (budget b.parent_id (f b.figures).self) t)
 
 abbrev pub rust_carved : (i : ℕ) (self : Budget) → rust.Result Account → Places Budget → Reply Budget
 rust_carved i self (ok child) t = answered done (add (budget (Some i) child) (put i self t))
@@ -159,10 +175,10 @@ rust_returned_to i child (Some b) (Some c) t =
 
 abbrev pub rust_run : Operation → Places Budget → Reply Budget
 rust_run (open_account cpu memory time) t = rust_opened (rust.new cpu rust.cpu_period_ns memory time) t
-rust_run (refill i time) t = rust_changed renewal i (λ a. refill_of (rust.refill a time)) (at t i) t
-rust_run (charge_cpu i ns time) t = rust_changed plain i (λ a. charge_of (rust.charge_cpu a ns time)) (at t i) t
-rust_run (charge_memory i bytes) t = rust_changed plain i (λ a. outcome_of (rust.charge_memory a bytes)) (at t i) t
-rust_run (release_memory i bytes) t = rust_changed plain i (λ a. outcome_of (rust.release_memory a bytes)) (at t i) t
+rust_run (refill i time) t = rust_changed rust_renewed i (λ a. rust.refill a time) (at t i) t
+rust_run (charge_cpu i ns time) t = rust_changed rust_charged i (λ a. rust.charge_cpu a ns time) (at t i) t
+rust_run (charge_memory i bytes) t = rust_changed rust_done i (λ a. rust.charge_memory a bytes) (at t i) t
+rust_run (release_memory i bytes) t = rust_changed rust_done i (λ a. rust.release_memory a bytes) (at t i) t
 rust_run (carve_out i cpu memory time) t = rust_carved_from i cpu memory time (at t i) t
 rust_run (release_child i child) t = rust_returned_to i child (at t i) (at t child) t
 

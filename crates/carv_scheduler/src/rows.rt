@@ -63,7 +63,7 @@ pub fn fresh_thread(state: State, budget: Option<u64>) -> Thread
     }
 }
 
-fn read_wait(t: &[u8], o: usize) -> Wait
+pub fn read_wait(t: &[u8], o: usize) -> Wait
     requires { o * 8 + 16 ≤ length t.now }
     ensures { result ≡ wait_at (words t.now) o }
 {
@@ -91,7 +91,7 @@ pub fn read_budget(t: &[u8], o: usize) -> Option<u64>
     (carv_area::get(t, o) != 0).then(|| carv_area::get(t, o + 1))
 }
 
-fn read_spaces(t: &[u8], o: usize) -> Option<Spaces>
+pub fn read_spaces(t: &[u8], o: usize) -> Option<Spaces>
     requires { o * 8 + 32 ≤ length t.now }
     ensures { result ≡ spaces_at (words t.now) o }
 {

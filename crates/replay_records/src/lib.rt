@@ -4,7 +4,7 @@
 
 ghost use Rattle.std.specs.Prelude.{◌≡◌, ◌+◌, ◌/◌, ◌≤◌, ◌<◌, ◌⊎◌, ◌%◌, ℕ, Bool, not, eqb, List, length, take, drop, IsFalse};
 ghost use Rattle.std.specs.Io.KnownBytes.{Consumes, IsAtEnd};
-ghost use Rattle.replay_records.specs.Tally.{block_bytes, started, added, Room, Counted, Taken, Told, most_calls};
+ghost use Rattle.replay_records.specs.Tally.{block_bytes, cut, started, added, Room, Counted, Taken, Told, most_calls};
 ghost use Rattle.replay_records.specs.Replayed.{Replays};
 ghost use Rattle.replay_records.specs.declared.TheConstants.{BUFFER_BYTES};
 
@@ -58,7 +58,7 @@ impl fmt::Display for Tally {
 
 impl Tally {
     // Before the first block.
-    fn start() -> Tally
+    pub fn start() -> Tally
         ensures value { result ≡ started }
         ensures room { Room result }
     {
@@ -71,7 +71,7 @@ impl Tally {
 
     // The tally with one more block, of n bytes, in which so many records differ. A record that is cut short is a difference and no
     // call; behind a block that isn't full there is none.
-    fn add(self, n: usize, size: usize, differences: u64) -> Tally
+    pub fn add(self, n: usize, size: usize, differences: u64) -> Tally
         requires size_nonzero { (0 < size) × (n ≤ BUFFER_BYTES) × (differences ≤ n / size) }
         requires room { Room self × (0 < self.blocks) }
         ensures { result ≡ added self n size differences }
@@ -83,7 +83,7 @@ impl Tally {
         };
         Tally {
             calls: self.calls + (n / size) as u64,
-            differences: self.differences + differences + u64::from(is_cut(n, size)),
+            differences: self.differences + differences + cut_short(n, size),
             blocks,
         }
     }
@@ -107,11 +107,19 @@ fn is_cut(n: usize, size: usize) -> bool
     n % size != 0
 }
 
+// 1 where n bytes end inside a record of `size` bytes.
+pub fn cut_short(n: usize, size: usize) -> u64
+    requires { 0 < size }
+    ensures { (result ≡ cut n size) × (result ≤ 1) }
+{
+    u64::from(is_cut(n, size))
+}
+
 // What was read: how many bytes, and whether a read failed behind them. No Result: bytes that were read before a failure count.
 #[derive(Clone, Copy, Debug, PartialEq, Eq)]
-struct Reading {
-    bytes: usize,
-    failed: bool,
+pub struct Reading {
+    pub bytes: usize,
+    pub failed: bool,
 }
 
 // Reads to the start of buf until it is full, the input ends or a read fails. On an empty buf it makes no call.
@@ -138,7 +146,7 @@ fn read_full<R: Read>(input: &mut R, buf: &mut [u8]) -> Reading
 
 // Reads a block of records of `size` bytes from the input to the start of buf. Of an input whose bytes are known, just these are taken,
 // in their order, and a block that isn't full ends it, unless a read failed.
-fn read_block<R: Read>(input: &mut R, buf: &mut [u8; BUFFER_BYTES], size: usize) -> Reading
+pub fn read_block<R: Read>(input: &mut R, buf: &mut [u8; BUFFER_BYTES], size: usize) -> Reading
     requires { 0 < size }
     ensures upper_bound { (result.bytes ≤ BUFFER_BYTES) × (result.bytes ≤ block_bytes size) }
     ensures buf_unchanged { drop (block_bytes size) buf.new ≡ drop (block_bytes size) buf.old }

@@ -1,7 +1,7 @@
 -- The laws of `Search`: how many of the rising keys are below a number, by halving, from a window of places. Keys that rise are at least as far apart as their places.
 -- Assumes nothing.
-use Rattle.std.specs.Prelude.{ℕ, zero, suc, ◌+◌, ◌*◌, ◌-◌, min, ◌≤◌, ◌<◌, ◌≡◌, List, [], ◌∷◌, length, get_or, eqb, ltb, None}
-use Rattle.std.proofs.Common.{not-suc-le-zero, eq-or-lt_of_le, mul-le-mul_left, add-zero, arith, sym, ap, ◌∙◌, eqb-true, ltb-true, ltb-false, lt-ltb, le-ltb}
+use Rattle.std.specs.Prelude.{ℕ, zero, suc, ◌+◌, ◌*◌, ◌-◌, min, ◌≤◌, ◌<◌, ◌≡◌, ◌⊎◌, List, [], ◌∷◌, length, get_or, eqb, ltb, None}
+use Rattle.std.proofs.Common.{not-suc-le-zero, eq-or-lt_of_le, suc-mul, mul-le-mul_left, mul-le-mul_right, add-zero, arith, sym, ap, ◌∙◌, inl, inr, eqb-true, ltb-true, ltb-false, lt-ltb, le-ltb}
 use Rattle.std.proofs.Math.Logic.{⊎_elim}
 use Rattle.std.specs.Bool.{then_some}
 use Rattle.std.proofs.lemmas.Bool.{eqb-false}
@@ -138,24 +138,43 @@ module _ (ks : List ℕ) (x n f z : ℕ) (r : Rising ks) (en : length ks ≡ n) 
       })
 
   -- x lies between them: its place is neither more than z - x before the last, nor more than x - f behind the first
-  module _ (a : f < x) (b : x ≤ z) (lo hi : ℕ) (from : lo ≡ (n - 1) - (z - x)) (to : hi ≡ min (x - f) (n - 1)) where
+  module _ (a : f ≤ x) (b : x ≤ z) (lo hi : ℕ) (from : lo ≡ (n - 1) - (z - x)) (most : hi ≤ n) (tight : n ≤ hi ⊎ (x - f) + 1 ≤ hi) where
     -- the window has a place
-    pub window_some : lo ≤ hi
-    window_some = omega (arith, gap ks r 0 (n - 1) (omega arith) (omega arith))
+    pub window_some : lo + 1 ≤ hi
+    window_some =
+        let g = gap ks r 0 (n - 1) (omega arith) (omega arith) in
+        ⊎_elim (λ (t : n ≤ hi). omega arith) (λ (t : (x - f) + 1 ≤ hi). omega arith) tight
 
     -- and the other places are not x's
-    pub window : Bracket ks x lo ((hi + 1) - lo)
+    pub window : Bracket ks x lo (hi - lo)
     window =
         let s = window_some in
         record {
           some = omega arith;
           fits = omega arith;
           below = λ k h. omega (arith, gap ks r k (n - 1) (omega arith) (omega arith));
-          above = λ k h l. omega (arith, gap ks r 0 k (omega arith) l);
+          above = λ k h l.
+              let g = gap ks r 0 k (omega arith) l in
+              ⊎_elim (λ (t : n ≤ hi). absurd (omega arith)) (λ (t : (x - f) + 1 ≤ hi). omega arith) tight;
         }
+
+  -- the least such window: its last place is x - f behind the first, or the last of all
+  module _ (a : f < x) (b : x ≤ z) (lo hi : ℕ) (from : lo ≡ (n - 1) - (z - x)) (to : hi ≡ min (x - f) (n - 1)) where
+    tight : n ≤ hi + 1 ⊎ (x - f) + 1 ≤ hi + 1
+    tight = ⊎_elim (λ (t : x - f < n). inr (omega arith)) (λ (t : n ≤ x - f). inl (omega arith)) (lt_or_ge (x - f) n)
+
+    pub least_window_some : lo ≤ hi
+    least_window_some = omega (arith, window_some (omega arith) b lo (hi + 1) from (omega arith) tight)
+
+    pub least_window : Bracket ks x lo ((hi + 1) - lo)
+    least_window = window (omega arith) b lo (hi + 1) from (omega arith) tight
 
 -- ---- rows
 
 -- rows that have words are not more than their words
 pub rows_few : (n w : ℕ) → 1 ≤ w → n ≤ n * w
 rows_few n w h = let m : n * 1 ≤ n * w = mul-le-mul_left n h in omega arith
+
+-- row m of n rows, each w words wide, is within them
+pub row_within : (m n w : ℕ) → m < n → m * w + w ≤ n * w
+row_within m n w h = let g : suc m * w ≤ n * w = mul-le-mul_right w h in omega (arith, suc-mul m w)

@@ -1,6 +1,6 @@
 -- Demand 2 for accounts alone: for every list of operations, each child returned to its own parent, every answer and every account are the Rust's after each
 -- operation, and no refusal is added. The lent forms answer and leave the same. Assumes nothing.
-use Rattle.std.specs.Prelude.{◌≡◌, refl, Bool, true, false, List, [], ◌∷◌, map, ℕ, zero, suc, set, Result, Option, Some, None}
+use Rattle.std.specs.Prelude.{◌≡◌, refl, Bool, true, false, List, [], ◌∷◌, map, ℕ, zero, suc, set, Result, Ok, Err, Option, Some, None}
 use Rattle.std.proofs.Common.{ap, ◌∙◌, sym, eq-eqb}
 use Rattle.std.proofs.lemmas.List.{map-append}
 use Rattle.std.proofs.Math.ListN.{get_or-map}
@@ -12,8 +12,8 @@ use Rattle.carv_budget.specs.Account as account
 use Rattle.carv_budget.specs.Account.{period, sound, outcome, Lent}
 use Rattle.carv_budget.specs.Rust as rust
 use Rattle.carv_budget.specs.Rust.{zero_period, cpu_budget_exceeds_period, cpu_limit_exceeded, memory_limit_exceeded, memory_limit_reached, memory_underflow, reservation_underflow, ok, err}
-use Rattle.carv_budget.specs.Replies.{error, answer, charged, refill_of, charge_of}
-use Rattle.carv_budget.specs.Runs.{Operation, open_account, refill, charge_cpu, charge_memory, release_memory, carve_out, release_child, Places, at, put, take, add, Answer, done, renewed, not_due, refused, number, plain, renewal, said, Reply, answered, Budget, budget, opened, changed, carved, carved_from, returned, returned_to, run, rust_opened, rust_changed, rust_carved, rust_carved_from, rust_returned, rust_returned_to, rust_run, replies, rust_replies, after, seen, all_seen, reply_seen, is_own, returns_own, AllReturnOwn, is_added, NoneAdded, AllSound}
+use Rattle.carv_budget.specs.Replies.{error, answer, charged, refill_of, charge_of, outcome_of}
+use Rattle.carv_budget.specs.Runs.{Operation, open_account, refill, charge_cpu, charge_memory, release_memory, carve_out, release_child, Places, at, put, take, add, Answer, done, renewed, not_due, refused, number, plain, renewal, said, Reply, answered, Budget, budget, opened, changed, carved, carved_from, returned, returned_to, run, rust_renewed, rust_charged, rust_done, rust_opened, rust_changed, rust_carved, rust_carved_from, rust_returned, rust_returned_to, rust_run, replies, rust_replies, after, seen, all_seen, reply_seen, is_own, returns_own, AllReturnOwn, is_added, NoneAdded, AllSound}
 use Rattle.carv_budget.proofs.Laws.Refines as refines
 use Rattle.carv_budget.proofs.Laws.RunsSound.{SoundAt, at_sound, run_kept, kept}
 
@@ -45,11 +45,37 @@ opened_rust : (r : rust.Result Account) (t : Places Budget) → opened (answer r
 opened_rust (ok a) t = rw (add_seen t (budget None a))
 opened_rust (err e) t = refl
 
-changed_rust : {T : Type 0} (say : T → Answer) (i : ℕ) (f g : Account → Outcome T) → ((a : Account) → sound a ≡ true → f a ≡ g a)
-    → (x : Option Budget) (t : Places Budget) → SoundAt (seen x) → changed say i f (seen x) (all_seen t) ≡ reply_seen (rust_changed say i g x t)
-changed_rust say i f g h None t p = refl
-changed_rust say i f g h (Some b) t p =
-    rw (h b.figures p, ← set_seen t i (Some (budget b.parent_id (g b.figures).account)))
+renewed_rust : (b : Bool) → renewal b ≡ rust_renewed b
+renewed_rust true = refl
+renewed_rust false = refl
+
+charged_rust : (b : Bool) → said plain (charged b) ≡ rust_charged b
+charged_rust true = refl
+charged_rust false = refl
+
+done_rust : (r : rust.Result (Unit {0})) → said plain (answer r) ≡ rust_done r
+done_rust (ok u) = refl
+done_rust (err e) = refl
+
+changed_rust : {T R : Type 0} (say : T → Answer) (says : R → Answer) (i : ℕ) (f : Account → Outcome T) (g : Account → rust.Call R) (of : rust.Call R → Outcome T)
+    → ((r : rust.Call R) → (said say (of r).answer ≡ says r.result) × ((of r).account ≡ r.self)) → ((a : Account) → sound a ≡ true → f a ≡ of (g a))
+    → (x : Option Budget) (t : Places Budget) → SoundAt (seen x) → changed say i f (seen x) (all_seen t) ≡ reply_seen (rust_changed says i g x t)
+changed_rust say says i f g of w h None t p = refl
+changed_rust {T = T} {R = R} say says i f g of w h (Some b) t p =
+    let r : rust.Call R = g b.figures in
+    ap (λ (o : Outcome T). answered (said say o.answer) (put i o.account (all_seen t))) (h b.figures p)
+    ∙ ap (λ (x : Answer). answered x (put i (of r).account (all_seen t))) (w r).0
+    ∙ ap (λ (a : Account). answered (says r.result) (put i a (all_seen t))) (w r).1
+    ∙ ap (λ (l : Places Account). answered (says r.result) l) (set_seen t i (Some (budget b.parent_id r.self)))
+
+refill_changed : (r : rust.Call Bool) → (said renewal (refill_of r).answer ≡ rust_renewed r.result) × ((refill_of r).account ≡ r.self)
+refill_changed r = (renewed_rust r.result, refl)
+
+charge_changed : (r : rust.Call Bool) → (said plain (charge_of r).answer ≡ rust_charged r.result) × ((charge_of r).account ≡ r.self)
+charge_changed r = (charged_rust r.result, refl)
+
+memory_changed : (r : rust.Call (rust.Result (Unit {0}))) → (said plain (outcome_of r).answer ≡ rust_done r.result) × ((outcome_of r).account ≡ r.self)
+memory_changed r = (done_rust r.result, refl)
 
 carved_rust : (i : ℕ) (self : Budget) (r : rust.Result Account) (t : Places Budget)
     → carved i self.figures (answer r) (all_seen t) ≡ reply_seen (rust_carved i self r t)
@@ -82,10 +108,10 @@ returned_to_rust i child (Some b) (Some c) t p q o =
 pub run_rust : (o : Operation) (t : Places Budget) → AllSound (all_seen t) → returns_own o t ≡ true → run o (all_seen t) ≡ reply_seen (rust_run o t)
 run_rust (open_account cpu memory time) t s w =
     ap (λ (r : Result Account BudgetError). opened r (all_seen t)) (refines.open_account_rust cpu memory time) ∙ opened_rust (rust.new cpu period memory time) t
-run_rust (refill i time) t s w = rw (at_seen t i) (changed_rust renewal i _ _ (λ a. refines.refill_rust a time) (at t i) t (seen_sound t i s))
-run_rust (charge_cpu i ns time) t s w = rw (at_seen t i) (changed_rust plain i _ _ (λ a. refines.charge_cpu_rust a ns time) (at t i) t (seen_sound t i s))
-run_rust (charge_memory i bytes) t s w = rw (at_seen t i) (changed_rust plain i _ _ (λ a. refines.charge_memory_rust a bytes) (at t i) t (seen_sound t i s))
-run_rust (release_memory i bytes) t s w = rw (at_seen t i) (changed_rust plain i _ _ (λ a. refines.release_memory_rust a bytes) (at t i) t (seen_sound t i s))
+run_rust (refill i time) t s w = rw (at_seen t i) (changed_rust renewal rust_renewed i _ _ refill_of refill_changed (λ a. refines.refill_rust a time) (at t i) t (seen_sound t i s))
+run_rust (charge_cpu i ns time) t s w = rw (at_seen t i) (changed_rust plain rust_charged i _ _ charge_of charge_changed (λ a. refines.charge_cpu_rust a ns time) (at t i) t (seen_sound t i s))
+run_rust (charge_memory i bytes) t s w = rw (at_seen t i) (changed_rust plain rust_done i _ _ outcome_of memory_changed (λ a. refines.charge_memory_rust a bytes) (at t i) t (seen_sound t i s))
+run_rust (release_memory i bytes) t s w = rw (at_seen t i) (changed_rust plain rust_done i _ _ outcome_of memory_changed (λ a. refines.release_memory_rust a bytes) (at t i) t (seen_sound t i s))
 run_rust (carve_out i cpu memory time) t s w = rw (at_seen t i) (carved_from_rust i cpu memory time (at t i) t (seen_sound t i s))
 run_rust (release_child i child) t s w =
     rw (at_seen t i, at_seen t child)
@@ -102,6 +128,22 @@ replies_rust (o ∷ os) t s w =
 -- Demand 2 for accounts alone.
 pub demand2 : (os : List Operation) → AllReturnOwn os [] → replies os [] ≡ map reply_seen (rust_replies os [])
 demand2 os w = replies_rust os [] tt w
+
+-- An answer's number is that of the result that it tells: the code's.
+
+said_number : {T : Type 0} (say : T → Answer) → ((x : T) → number (say x) ≡ 0) → (r : Result T BudgetError) → number (said say r) ≡ account.number_of r
+said_number say h (Ok x) = h x
+said_number say h (Err e) = refl
+
+renewal_number : (b : Bool) → number (renewal b) ≡ 0
+renewal_number true = refl
+renewal_number false = refl
+
+pub renewal_told : (r : Result Bool BudgetError) → number (said renewal r) ≡ account.number_of r
+renewal_told r = said_number renewal renewal_number r
+
+pub plain_told : (r : Result (Unit {0}) BudgetError) → number (said plain r) ≡ account.number_of r
+plain_told r = said_number plain (λ u. refl) r
 
 -- So no refusal is added along the way, whoever's child is returned: the Rust's answers have other numbers than 1.
 

@@ -42,6 +42,8 @@ pub record Limits : Type 0 where
       ∷ number MemoryLimitReached ∷ number CpuLimitExceeded ∷ number MemoryLimitExceeded ∷ number ReservationUnderflow ∷ []
       ≡ 1 ∷ 2 ∷ 11 ∷ 12 ∷ 12 ∷ 12 ∷ 12 ∷ 15 ∷ []
   pub accepted : (x : Unit {0}) → number_of (Ok x) ≡ 0
+  -- done, a renewal that was due, and one that was not
+  pub answers_accepted : number_of (Ok (tt {0})) ∷ number_of (Ok true) ∷ number_of (Ok false) ∷ [] ≡ 0 ∷ 0 ∷ 0 ∷ []
   -- "period (always 10,000,000 ns)"
   pub period_is : period ≡ 10_000_000
   -- "2. Opening: is the CPU share at most 10,000,000?"
@@ -91,6 +93,7 @@ unfolding sound due renew spent carved returnable
 limits_hold = record {
   answers = refl;
   accepted = λ _. refl;
+  answers_accepted = refl;
   period_is = refl;
   opening = (refl, refl);
   sound_at = refl;

@@ -22,6 +22,10 @@ cut_is n size = cases (eqb (n % size) 0)
     cases true = refl
     cases false = refl
 
+pub cut_most : (n size : ℕ) → cut n size ≤ 1
+unfolding cut
+cut_most n size = one_most (eqb (n % size) 0)
+
 -- the tally as it is added to, where the block is full and where it isn't
 pub added_full : (t : Tally) (n size d k : ℕ) → k ≡ cut n size → n ≡ block_bytes size
     → record { calls = t.calls + n / size; differences = t.differences + d + k; blocks = t.blocks - 1 } ≡ added t n size d

@@ -1,8 +1,0 @@
--- `carv_area::table::Table::find_near` meets its contract. Assumes nothing.
-use Rattle.std.proofs.Common.{arith, ◌∙◌, sym}
-use Rattle.carv_area.specs.Laws.Keys.{find_there}
-use Rattle.carv_area.proofs.table.Table.find_near.Goals as goal
-
-pub returns-then-key-id : goal.returns-then-key-id
-returns-then-key-id g c =
-    sym (find_there _ _ _ c.args.self.now.keyed.rise (omega arith) (sym c.key.ensures ∙ c.if-key-id.true))
