@@ -1,7 +1,7 @@
 -- The registry in its lent area of 45,072 bytes, as 64-bit words, the least byte first: the next id, the number of objects, and 512 places of 11 words each.
 -- What the bytes say, question 1 of them, and what a call promises of them. docs/LAYOUT.md has the same as a table. Assumes nothing.
-use Rattle.std.specs.Prelude.{◌≡◌, Bool, true, false, ◌&&◌, List, [], ◌∷◌, ℕ, ◌+◌, ◌*◌, eqb, leb, length, get_or, drop, Option, Result, Ok, Err}
-use Rattle.carv_area.specs.Table.{Row}
+use Rattle.std.specs.Prelude.{◌≡◌, Bool, true, false, ◌&&◌, List, [], ◌∷◌, ℕ, ◌+◌, ◌*◌, ◌≤◌, eqb, leb, length, get_or, drop, Option, Result, Ok, Err}
+use Rattle.carv_area.specs.Table.{Row, Rising}
 use Rattle.carv_area.specs.Lists.{tab}
 use Rattle.carv_area.specs.Words.{words}
 use Rattle.carv_area.specs.Parts.{part}
@@ -61,6 +61,13 @@ rows_in l = tab (get_or l 0 0) (row_at l)
 -- the registry that the bytes a say
 abbrev pub decode : List ℕ → Registry
 decode a = record { next = get_or (words (head a)) 0 0; rows = rows_in (words (table a)) }
+
+-- The bytes a are laid out as a registry's, whatever the words of its kinds: their length, room for the rows, zeros behind them, and rising ids.
+pub record LaidOut (a : List ℕ) : Type 0 where
+  pub size : length a ≡ 45_072
+  pub few : get_or (words (table a)) 0 0 ≤ 512
+  pub zeros : all_zero (drop (get_or (words (table a)) 0 0 * 11 + 1) (words (table a))) ≡ true
+  pub rising : Rising 1 (decode a).next (decode a).rows
 
 -- "every code is a listed one": of the table's words, each object's kind
 unfoldable pub kinds_listed : List ℕ → Bool

@@ -9,7 +9,7 @@ ghost use Rattle.carv_area.specs.Table.{Rising};
 ghost use Rattle.carv_area.specs.Rows.{remove_at};
 ghost use Rattle.carv_area.specs.Lookup.{Located, Here};
 ghost use Rattle.carv_objects_spec.specs.Registry.{has_place, has_next, budget, object, add};
-ghost use Rattle.carv_objects.specs.Area.{table, decode};
+ghost use Rattle.carv_objects.specs.Area.{table, decode, LaidOut};
 ghost use Rattle.carv_objects.specs.Laws.Rows.{row, no_row};
 ghost use Rattle.carv_objects.specs.Laws.Formed.{WellFormed, Leaves};
 ghost use Rattle.carv_objects.specs.Laws.AreaSteps.{with_rows, BudgetAt};
@@ -126,9 +126,9 @@ fn kind_at(a: &[u8], i: usize) -> Kind
     Kind::of_code(carv_area::get(&a[TABLE..BYTES], i * rows::ROW + rows::KIND))
 }
 
-// The account of the object at place i.
+// The account of the object at place i, whatever the word of its kind.
 pub fn account_at(a: &[u8], i: usize) -> Account
-    requires well_formed { WellFormed a.now }
+    requires laid_out { LaidOut a.now }
     requires i_in_bounds { i < length (decode a.now).rows }
     ensures { result ≡ (get_or (decode a.now).rows i no_row).it.account }
 {

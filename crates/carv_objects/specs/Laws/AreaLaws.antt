@@ -1,5 +1,5 @@
 -- A sound area has its length, a sound registry, and a table that is the count, the rows and zeros; and an area that has these is sound. Assumes nothing.
-use Rattle.std.specs.Prelude.{◌≡◌, refl, Bool, true, List, [], ◌∷◌, ℕ, zero, suc, ◌+◌, ◌*◌, ◌/◌, ◌%◌, ◌≤◌, ◌<◌, eqb, length, get_or, take, drop}
+use Rattle.std.specs.Prelude.{◌≡◌, refl, Bool, true, List, [], ◌∷◌, ℕ, zero, suc, ◌+◌, ◌*◌, ◌/◌, ◌%◌, ◌≤◌, ◌<◌, eqb, length, get_or, set, take, drop}
 use Rattle.std.proofs.Common.{sym, ap, ◌∙◌, subst, add-suc, arith, take-append-drop, ext_get_or, get_or-take, length-take-le, drop_at, eqb-true, eq-eqb}
 use Rattle.carv_area.specs.Table.{Row}
 use Rattle.carv_area.specs.Lists.{tab}
@@ -23,7 +23,8 @@ use Rattle.carv_objects_spec.specs.Sound.{all, sound}
 use Rattle.carv_objects_spec.proofs.Laws.Kinds.{code_listed, kind_of_code, code_kind_of}
 use Rattle.carv_objects_spec.proofs.Laws.SoundFacts.{Sound}
 use Rattle.carv_objects_spec.proofs.Laws.SoundLaws.{sound_told, sound_shown}
-use Rattle.carv_objects.specs.Area.{table, fields, kind_word, row_at, rows_in, decode, kinds_listed, sound_area, Is}
+use Rattle.carv_objects.specs.Area.{table, fields, kind_word, row_at, rows_in, decode, LaidOut, kinds_listed, sound_area, Is}
+use Rattle.carv_objects.specs.Laws.Formed.{WellFormed}
 
 -- a row has 11 words
 pub wide : (r : Row Entry) → length (fields r) ≡ 11
@@ -52,40 +53,64 @@ pub listed_shown : (l : List ℕ) → Listed l (get_or l 0 0) → kinds_listed l
 unfolding kinds_listed
 listed_shown l h = in_all (get_or l 0 0) (λ i. listed (kind_word l i)) h
 
--- word c of the row at place i, whose kind is listed
-pub field : (l : List ℕ) (i c : ℕ) → c < 11 → listed (kind_word l i) ≡ true → get_or (fields (row_at l i)) c 0 ≡ get_or l (i * 11 + suc c) 0
-field l i zero h k = refl
-field l i (suc zero) h k = code_kind_of (kind_word l i) k
-field l i (suc (suc zero)) h k = refl
-field l i (suc (suc (suc zero))) h k = refl
-field l i (suc (suc (suc (suc zero)))) h k = refl
-field l i (suc (suc (suc (suc (suc zero))))) h k = refl
-field l i (suc (suc (suc (suc (suc (suc zero)))))) h k = refl
-field l i (suc (suc (suc (suc (suc (suc (suc zero))))))) h k = refl
-field l i (suc (suc (suc (suc (suc (suc (suc (suc zero)))))))) h k = refl
-field l i (suc (suc (suc (suc (suc (suc (suc (suc (suc zero))))))))) h k = refl
-field l i (suc (suc (suc (suc (suc (suc (suc (suc (suc (suc zero)))))))))) h k = refl
-field l i (suc (suc (suc (suc (suc (suc (suc (suc (suc (suc (suc c))))))))))) h k = absurd (omega arith)
+-- the words of the object at place i, its kind's as it stands, listed or not
+abbrev pub row_words : List ℕ → ℕ → List ℕ
+row_words l i =
+    let r = row_at l i in
+    r.id ∷ kind_word l i ∷ r.it.payer ∷ r.it.charge
+    ∷ r.it.account.cpu_allowance ∷ r.it.account.memory_limit ∷ r.it.account.period_start ∷ r.it.account.cpu_left
+    ∷ r.it.account.cpu_reserved ∷ r.it.account.memory_used ∷ r.it.account.memory_reserved ∷ []
 
--- the words of the first n rows of the words l behind their first
-pub flat_rows : (x : ℕ) (l : List ℕ) (n : ℕ) → n * 11 ≤ length l → Listed (x ∷ l) n → flat fields (tab n (row_at (x ∷ l))) ≡ take (n * 11) l
-flat_rows x l n h named =
-    let xs : List (Row Entry) = tab n (row_at (x ∷ l)) in
-    let s : length (flat fields (tab n (row_at (x ∷ l)))) ≡ n * 11 =
-    length_flat fields 11 wide xs ∙ ap (λ (m : ℕ). m * 11) (length_tab n (row_at (x ∷ l))) in
-    ext_get_or 0 (flat fields xs) (take (n * 11) l) (s ∙ sym (length-take-le (n * 11) l h))
+-- word c of the row at place i
+pub field : (l : List ℕ) (i c : ℕ) → c < 11 → get_or (row_words l i) c 0 ≡ get_or l (i * 11 + suc c) 0
+field l i zero h = refl
+field l i (suc zero) h = refl
+field l i (suc (suc zero)) h = refl
+field l i (suc (suc (suc zero))) h = refl
+field l i (suc (suc (suc (suc zero)))) h = refl
+field l i (suc (suc (suc (suc (suc zero))))) h = refl
+field l i (suc (suc (suc (suc (suc (suc zero)))))) h = refl
+field l i (suc (suc (suc (suc (suc (suc (suc zero))))))) h = refl
+field l i (suc (suc (suc (suc (suc (suc (suc (suc zero)))))))) h = refl
+field l i (suc (suc (suc (suc (suc (suc (suc (suc (suc zero))))))))) h = refl
+field l i (suc (suc (suc (suc (suc (suc (suc (suc (suc (suc zero)))))))))) h = refl
+field l i (suc (suc (suc (suc (suc (suc (suc (suc (suc (suc (suc c))))))))))) h = absurd (omega arith)
+
+-- they are those of its record, where its kind is listed
+pub row_listed : (l : List ℕ) (i : ℕ) → listed (kind_word l i) ≡ true → fields (row_at l i) ≡ row_words l i
+row_listed l i k = ap (λ (n : ℕ). set (row_words l i) 1 n) (code_kind_of (kind_word l i) k)
+
+-- and so is word c
+pub listed_field : (l : List ℕ) (i c : ℕ) → c < 11 → listed (kind_word l i) ≡ true → get_or (fields (row_at l i)) c 0 ≡ get_or l (i * 11 + suc c) 0
+listed_field l i c h k = ap (λ (ws : List ℕ). get_or ws c 0) (row_listed l i k) ∙ field l i c h
+
+-- rows that have the words of the first n rows, behind the first word
+flat_words : {A : Type 0} (words_of : A → List ℕ) (at : ℕ → A) → ((r : A) → length (words_of r) ≡ 11) → (x : ℕ) (l : List ℕ) (n : ℕ) → n * 11 ≤ length l
+    → ((i c : ℕ) → i < n → c < 11 → get_or (words_of (at i)) c 0 ≡ get_or (x ∷ l) (i * 11 + suc c) 0) → flat words_of (tab n at) ≡ take (n * 11) l
+flat_words {A} words_of at eleven x l n h word =
+    let xs : List A = tab n at in
+    let s : length (flat words_of xs) ≡ n * 11 = length_flat words_of 11 eleven xs ∙ ap (λ (m : ℕ). m * 11) (length_tab n at) in
+    ext_get_or 0 (flat words_of xs) (take (n * 11) l) (s ∙ sym (length-take-le (n * 11) l h))
     (λ k b.
     let i = k / 11 in
     let c = k % 11 in
     let q : k ≡ i * 11 + c = omega arith in
     let below : i < n = omega arith in
-    let d = row_at (x ∷ l) i in
-    ap (λ (j : ℕ). get_or (flat fields xs) j 0) q
-    ∙ get_or_flat fields 11 wide xs i c d (rw length_tab below) (omega arith)
-    ∙ ap (λ (r : Row Entry). get_or (fields r) c 0) (get_or_tab n (row_at (x ∷ l)) i d below)
-    ∙ field (x ∷ l) i c (omega arith) (named i below)
+    let d = at i in
+    ap (λ (j : ℕ). get_or (flat words_of xs) j 0) q
+    ∙ get_or_flat words_of 11 eleven xs i c d (rw length_tab below) (omega arith)
+    ∙ ap (λ (r : A). get_or (words_of r) c 0) (get_or_tab n at i d below)
+    ∙ word i c below (omega arith)
     ∙ rw (add-suc (i * 11) c) (ap (λ (j : ℕ). get_or l j 0) (sym q))
     ∙ sym (get_or-take (n * 11) l k 0 (omega arith)))
+
+-- the words of the first n rows of the words l behind their first
+pub flat_rows : (x : ℕ) (l : List ℕ) (n : ℕ) → n * 11 ≤ length l → flat (row_words (x ∷ l)) (tab n (λ i. i)) ≡ take (n * 11) l
+flat_rows x l n h = flat_words (row_words (x ∷ l)) (λ i. i) (λ i. refl) x l n h (λ i c a b. field (x ∷ l) i c b)
+
+-- and of what their records say, where their kinds are listed
+pub listed_rows : (x : ℕ) (l : List ℕ) (n : ℕ) → n * 11 ≤ length l → Listed (x ∷ l) n → flat fields (tab n (row_at (x ∷ l))) ≡ take (n * 11) l
+listed_rows x l n h named = flat_words fields (row_at (x ∷ l)) wide x l n h (λ i c a b. listed_field (x ∷ l) i c b (named i a))
 
 -- words whose rows are followed by zeros are a table
 rows_hold : (l : List ℕ) → get_or l 0 0 * 11 + 1 ≤ length l → Listed l (get_or l 0 0) → all_zero (drop (get_or l 0 0 * 11 + 1) l) ≡ true → Holds fields 11 l (rows_in l)
@@ -95,7 +120,7 @@ rows_hold (n ∷ l) h named z =
     let e : n * 11 + 1 ≡ suc (n * 11) = omega arith in
     let d : all_zero (drop (n * 11) l) ≡ true = rw e at z in
     hold fields 11 wide (n ∷ l) (tab n (row_at (n ∷ l))) (length (drop (n * 11) l))
-    (rw (length_tab n (row_at (n ∷ l)), flat_rows n l n (omega arith) named, ← (all_zero_lem (drop (n * 11) l) d), take-append-drop (n * 11) l))
+    (rw (length_tab n (row_at (n ∷ l)), listed_rows n l n (omega arith) named, ← (all_zero_lem (drop (n * 11) l) d), take-append-drop (n * 11) l))
 
 -- a table's rows are followed by zeros
 hold_zeros : (l : List ℕ) (xs : List (Row Entry)) → Holds fields 11 l xs → all_zero (drop (get_or l 0 0 * 11 + 1) l) ≡ true
@@ -139,18 +164,47 @@ pub table_size : (a : List ℕ) → length a ≡ 45_072 → length (words (table
 unfolding table
 table_size a e = omega (arith, length_words (part 8 45_064 a), length_part 8 45_064 a (omega arith))
 
+-- an area that is laid out is well formed where its kinds are listed
+pub laid_formed : (a : List ℕ) → LaidOut a → Listed (words (table a)) (get_or (words (table a)) 0 0) → WellFormed a
+laid_formed a k named = record {
+  size = k.size;
+  next = refl;
+  rows = stored fields 11 (table a) (decode a).rows (rows_hold (words (table a)) (omega (arith, k.few, table_size a k.size)) named k.zeros);
+  rising = k.rising;
+}
+
+-- and back
+pub formed_laid : (a : List ℕ) → WellFormed a → LaidOut a
+formed_laid a k = record {
+  size = k.size;
+  few = omega (arith, k.rows.holds.count, k.rows.holds.size, table_size a k.size);
+  zeros = hold_zeros (words (table a)) (decode a).rows k.rows.holds;
+  rising = k.rising;
+}
+
+-- a sound area is laid out
+pub sound_laid : (a : List ℕ) → sound_area a ≡ true → LaidOut a
+unfolding sound_area rows_in
+sound_laid a h =
+    let rest = second (eqb (length a) 45_072) _ h in
+    let S = sound_told (decode a) (first (sound (decode a)) _ rest) in
+    let few : get_or (words (table a)) 0 0 ≤ 512 = rw length_tab at S.few in
+    record {
+      size = eqb-true (length a) 45_072 (first (eqb (length a) 45_072) _ h);
+      few = few;
+      zeros = second (kinds_listed (words (table a))) _ (second (sound (decode a)) _ rest);
+      rising = S.rising;
+    }
+
 -- what a sound area is
 pub sound_formed : (a : List ℕ) → sound_area a ≡ true → (length a ≡ 45_072) × Sound (decode a) × Stored fields 11 (table a) (decode a).rows
 unfolding sound_area rows_in
 sound_formed a h =
     let l = words (table a) in
-    let size : length a ≡ 45_072 = eqb-true (length a) 45_072 (first (eqb (length a) 45_072) _ h) in
     let rest = second (eqb (length a) 45_072) _ h in
-    let S = sound_told (decode a) (first (sound (decode a)) _ rest) in
-    let few : get_or (words (table a)) 0 0 ≤ 512 = rw length_tab at S.few in
-    let stored_rest = second (sound (decode a)) _ rest in
-    let named = listed_told l (first (kinds_listed l) _ stored_rest) in
-    (size, S, stored fields 11 (table a) (decode a).rows (rows_hold (words (table a)) (omega (arith, table_size a size)) named (second (kinds_listed l) _ stored_rest)))
+    let named = listed_told l (first (kinds_listed l) _ (second (sound (decode a)) _ rest)) in
+    let k = sound_laid a h in
+    (k.size, sound_told (decode a) (first (sound (decode a)) _ rest), (laid_formed a k named).rows)
 
 -- and its kinds are listed ones
 pub sound_listed : (a : List ℕ) → sound_area a ≡ true → Listed (words (table a)) (get_or (words (table a)) 0 0)

@@ -7,6 +7,7 @@ use mathlib.Core.List.{List, [], ◌∷◌, ◌++◌}
 use Rattle.carv_area.specs.Table.{Row, Rising, alter}
 use Rattle.std.specs.Bool.{then_some}
 use Rattle.carv_area.specs.Laws.Table.{rising_weaken, rising_snoc}
+use Rattle.carv_area.specs.Laws.Lists.{length_tab, get_or_tab}
 use Rattle.carv_area.specs.Words.{words}
 use Rattle.carv_area.specs.Laws.Words.{length_words}
 use Rattle.carv_area.specs.Parts.{part, put_part}
@@ -24,9 +25,9 @@ use Rattle.carv_objects_spec.specs.declared.kind.Kind.{Kind}
 use Rattle.carv_objects_spec.specs.declared.Entry.{Entry}
 use Rattle.carv_objects_spec.specs.Kinds.{is_budget_kind, kind_of}
 use Rattle.carv_objects_spec.specs.Registry.{Registry, or_missing, found, entry, has, is_budget, has_place, has_next, on_account, on_charge, budget, object}
-use Rattle.carv_objects.specs.Area.{head, table, fields, row_at, decode}
+use Rattle.carv_objects.specs.Area.{head, table, fields, row_at, rows_in, decode, LaidOut}
 use Rattle.carv_objects.specs.Laws.Rows.{row, no_row, wide, set_account, row_at_is, rows_keyed, rows_located, row_room, row_written}
-use Rattle.carv_objects.specs.Laws.Formed.{WellFormed, Leaves, leaves, leaves_as, length_head, table_written}
+use Rattle.carv_objects.specs.Laws.Formed.{WellFormed, Leaves, leaves, leaves_as, length_head, length_table, table_written}
 
 abbrev pub with_next : ℕ → Registry → Registry
 with_next n r = record { next = n; rows = r.rows }
@@ -52,6 +53,20 @@ module _ {A : Type 0} where
   rising_remove [] l n (suc i) u = u
   rising_remove (q ∷ m) l n zero u = rising_weaken m l (suc q.id) n (omega (arith, u.0)) u.1
   rising_remove (q ∷ m) l n (suc i) u = (u.0, rising_remove m (suc q.id) n i u.1)
+
+-- The account that is read of an area that is laid out.
+module _ (a : List ℕ) (k : LaidOut a) (i : ℕ) (h : i < length (decode a).rows) where
+  inside : i < get_or (words (table a)) 0 0
+  unfolding rows_in
+  inside = omega (arith, h, length_tab (get_or (words (table a)) 0 0) (row_at (words (table a))))
+
+  pub account_room : (i * 11 + 11) * 8 + 8 ≤ length (table a)
+  unfolding table
+  account_room = omega (arith, inside, k.few, length_table a k.size)
+
+  pub account_is : (x : Account) → x ≡ (row_at (words (table a)) i).it.account → x ≡ (get_or (decode a).rows i no_row).it.account
+  unfolding rows_in
+  account_is x e = e ∙ ap (λ (r : Row Entry). r.it.account) (sym (get_or_tab (get_or (words (table a)) 0 0) (row_at (words (table a))) i no_row inside))
 
 -- What is read of a well-formed area.
 module _ (a : List ℕ) (k : WellFormed a) where
@@ -85,9 +100,6 @@ module _ (a : List ℕ) (k : WellFormed a) where
 
     pub kind_is : (n : ℕ) → n ≡ get_or (words (table a)) (i * 11 + 2) 0 → (x : Kind) → x ≡ kind_of n → x ≡ (get_or (decode a).rows i no_row).it.kind
     kind_is n e x q = q ∙ ap kind_of e ∙ ap (λ (r : Row Entry). r.it.kind) at_is
-
-    pub account_is : (x : Account) → x ≡ (row_at (words (table a)) i).it.account → x ≡ (get_or (decode a).rows i no_row).it.account
-    account_is x e = e ∙ ap (λ (r : Row Entry). r.it.account) at_is
 
     pub entry_is : (x : Entry) → x ≡ (row_at (words (table a)) i).it → x ≡ (get_or (decode a).rows i no_row).it
     entry_is x e = e ∙ ap (λ (r : Row Entry). r.it) at_is

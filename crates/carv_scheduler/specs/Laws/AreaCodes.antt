@@ -1,11 +1,14 @@
 -- "Every code is a listed one", of a board's area: words of a thread or of an exit that are no listed codes make it unsound, and a sound area has the codes of each thread's
--- state, budget and space and of each exit's cause. Assumes nothing.
-use Rattle.std.specs.Prelude.{◌≡◌, refl, true, false, List, ◌∷◌, ℕ, ◌+◌, ◌*◌, ◌<◌, suc, length, slice_index, slice_index_or, set, Some}
-use Rattle.std.proofs.Common.{sym, ◌∙◌, arith}
+-- state, budget and space and of each exit's cause; how an area is laid out goes by no code. Assumes nothing.
+use Rattle.std.specs.Prelude.{◌≡◌, refl, true, false, List, ◌∷◌, ℕ, ◌+◌, ◌*◌, ◌^◌, ◌≤◌, ◌<◌, suc, length, slice_index, slice_index_or, set, Some}
+use Rattle.std.proofs.Common.{sym, ap, ◌∙◌, arith}
+use Rattle.std.proofs.lemmas.List.{get_or-set_other}
 use Rattle.std.proofs.lemmas.Bool.{false≢true}
 use Rattle.carv_area.specs.Lists.{tab}
 use Rattle.carv_area.specs.Laws.Table.{test}
 use Rattle.carv_area.specs.Words.{words}
+use Rattle.carv_area.specs.Parts.{part, put_part}
+use Rattle.carv_area.specs.Laws.Parts.{length_put, part_same, part_before, part_after}
 use Rattle.carv_area.specs.Rows.{flat}
 use Rattle.carv_area.specs.Laws.Rows.{holds_word}
 use Rattle.carv_scheduler_spec.specs.declared.State.TheVariants.{Inactive}
@@ -13,8 +16,10 @@ use Rattle.carv_scheduler_spec.specs.declared.Thread.{Thread}
 use Rattle.carv_scheduler_spec.specs.Scheduler.{in_spaces}
 use Rattle.carv_scheduler_spec.specs.Codes.{is_word, state_word, kind_word, number_word, id_word, space_word, cspace_word, root_word, cause_word}
 use Rattle.carv_scheduler_spec.proofs.Laws.Unsound.{record_with, the_threads, the_exits, with_8}
-use Rattle.carv_scheduler.specs.Area.{threads_part, exits_part, thread_fields, exit_fields, thread_listed, cause_listed_at, threads_listed, exits_listed, decode, sound_area}
+use Rattle.carv_scheduler.specs.Area.{registry_part, threads_part, queue_part, exits_part, thread_fields, thread_at, threads_in, exit_fields, thread_listed, cause_listed_at, threads_listed, exits_listed, decode, sound_area}
+use Rattle.carv_objects.specs.Laws.AreaKinds.{rising_ids, count_kept, zeros_kept}
 use Rattle.carv_scheduler.specs.Laws.Rows.{no_row, wide, no_exit, wide_exit}
+use Rattle.carv_scheduler.specs.Laws.Formed.{LaidOut}
 use Rattle.carv_scheduler.specs.Laws.Listed.{each_out, cause_words}
 use Rattle.carv_scheduler.specs.Laws.AreaLaws.{asked_told, area_formed}
 
@@ -27,6 +32,57 @@ unlisted_thread_fails a i b h =
 pub unlisted_cause_fails : (a : List ℕ) (i : ℕ) → i < slice_index (words (exits_part a)) 0 → cause_listed_at (words (exits_part a)) i ≡ false → sound_area a ≡ false
 unlisted_cause_fails a i b h =
     test (sound_area a) (λ s. absurd (false≢true (sym h ∙ cause_words (words (exits_part a)) (asked_told a s).exits_listed i b))) (λ s. s)
+
+-- An area that is laid out stays so whatever word is put for a code: what of a thread's row is no id, and the cause of an exit.
+
+-- p is its threads with the word n for word c of the thread at place i
+pub any_thread_code : (a p : List ℕ) → LaidOut a → length p ≡ 21_512 → (i c n : ℕ) → i < slice_index (words (threads_part a)) 0 → 1 ≤ c → c < 21
+    → words p ≡ set (words (threads_part a)) (i * 21 + 1 + c) n → LaidOut (put_part 45_088 21_512 a p)
+unfolding registry_part threads_part queue_part exits_part threads_in
+any_thread_code a p k z i c n b c₁ c₂ q =
+    let s = k.size in
+    let fits : 45_088 + 21_512 ≤ length a = omega arith in
+    let l = words (part 45_088 21_512 a) in
+    let o = i * 21 + 1 + c in
+    let t : words (part 45_088 21_512 (put_part 45_088 21_512 a p)) ≡ set l o n = ap words (part_same 45_088 21_512 a p fits z) ∙ q in
+    let some : 1 ≤ o = omega arith in
+    let inside : o < slice_index_or l 0 0 * 21 + 1 = omega arith in
+    let e = count_kept 21 l o n some inside in
+    let id : (j : ℕ) → (thread_at (set l o n) j).id ≡ (thread_at l j).id = λ j. get_or-set_other l o (j * 21 + 1) n 0 (λ e. omega arith) in
+    record {
+      size = length_put 45_088 21_512 a p fits z ∙ k.size;
+      registry = rw (part_before 45_088 21_512 a p fits z 0 45_072 (omega arith)) k.registry;
+      few = rw (t, e) k.few;
+      threads = rw (t, zeros_kept 21 l o n some inside) k.threads;
+      rising = rw (t, e) (rising_ids (slice_index l 0) 0 (2 ^ 64) (thread_at l) (thread_at (set l o n)) id k.rising);
+      count = rw (part_after 45_088 21_512 a p fits z 66_600 1_024 (omega arith)) k.count;
+      queue = rw (part_after 45_088 21_512 a p fits z 66_600 1_024 (omega arith)) k.queue;
+      logged = rw (part_after 45_088 21_512 a p fits z 67_624 520 (omega arith)) k.logged;
+      exits = rw (part_after 45_088 21_512 a p fits z 67_624 520 (omega arith)) k.exits;
+    }
+
+-- p is its exits with the word n for the cause of the exit at place i
+pub any_cause : (a p : List ℕ) → LaidOut a → length p ≡ 520 → (i n : ℕ) → i < slice_index (words (exits_part a)) 0
+    → words p ≡ set (words (exits_part a)) (i * 2 + 2) n → LaidOut (put_part 67_624 520 a p)
+unfolding registry_part threads_part queue_part exits_part
+any_cause a p k z i n b q =
+    let s = k.size in
+    let fits : 67_624 + 520 ≤ length a = omega arith in
+    let l = words (part 67_624 520 a) in
+    let t : words (part 67_624 520 (put_part 67_624 520 a p)) ≡ set l (i * 2 + 2) n = ap words (part_same 67_624 520 a p fits z) ∙ q in
+    let some : 1 ≤ i * 2 + 2 = omega arith in
+    let inside : i * 2 + 2 < slice_index_or l 0 0 * 2 + 1 = omega arith in
+    record {
+      size = length_put 67_624 520 a p fits z ∙ k.size;
+      registry = rw (part_before 67_624 520 a p fits z 0 45_072 (omega arith)) k.registry;
+      few = rw (part_before 67_624 520 a p fits z 45_088 21_512 (omega arith)) k.few;
+      threads = rw (part_before 67_624 520 a p fits z 45_088 21_512 (omega arith)) k.threads;
+      rising = rw (part_before 67_624 520 a p fits z 45_088 21_512 (omega arith)) k.rising;
+      count = rw (part_before 67_624 520 a p fits z 66_600 1_024 (omega arith)) k.count;
+      queue = rw (part_before 67_624 520 a p fits z 66_600 1_024 (omega arith)) k.queue;
+      logged = rw (t, count_kept 2 l (i * 2 + 2) n some inside) k.logged;
+      exits = rw (t, zeros_kept 2 l (i * 2 + 2) n some inside) k.exits;
+    }
 
 -- the words l have, for the thread at place i, the codes of the state, budget and space of t
 pub record StoredCodes (l : List ℕ) (i : ℕ) (t : Thread) : Type 0 where

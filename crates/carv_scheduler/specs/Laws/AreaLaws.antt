@@ -1,7 +1,8 @@
 -- A sound area of the board is well formed and says a sound board, and an area that is well formed and says one is sound. Assumes nothing.
-use Rattle.std.specs.Prelude.{◌≡◌, ℕ, zero, suc, ◌+◌, ◌*◌, ◌<◌, ◌≤◌, true, List, length, ◌==◌, nat_le, slice_index, slice_index_or}
+use Rattle.std.specs.Prelude.{◌≡◌, ℕ, zero, suc, ◌+◌, ◌*◌, ◌<◌, ◌≤◌, true, List, [], ◌∷◌, length, ◌==◌, nat_le, slice_index, slice_index_or}
 use Rattle.std.proofs.Math.Path.{refl}
 use Rattle.std.proofs.Common.{sym, ap, ◌∙◌, subst, add_assoc, arith, drop_at, eqb-true, eq-eqb, leb-true, le-leb}
+use Rattle.std.proofs.lemmas.List.Edits.{sets}
 use Rattle.carv_area.specs.Lists.{tab}
 use Rattle.carv_area.specs.Laws.Lists.{length_tab, get_or_tab}
 use Rattle.carv_area.specs.Words.{words}
@@ -26,38 +27,66 @@ use Rattle.carv_scheduler_spec.proofs.Laws.SoundLaws.{sound_told, sound_shown}
 use Rattle.carv_scheduler.specs.Area.{registry_part, threads_part, queue_part, exits_part, thread_fields, thread_at, exit_fields, exit_at, threads_in, exits_in, threads_listed, exits_listed, decode, behind, sound_area, Is}
 use Rattle.carv_scheduler.specs.Laws.Rows.{no_row, wide, no_exit, wide_exit}
 use Rattle.carv_scheduler.specs.Laws.Listed.{state_words, budget_words, spaces_words, cause_words, threads_are_listed, exits_are_listed}
-use Rattle.carv_scheduler.specs.Laws.Formed.{WellFormed, Leaves}
+use Rattle.carv_scheduler.specs.Laws.Formed.{WellFormed, LaidOut, Leaves}
 
--- word c of the thread at place i, and of the exit at place i, where their codes are listed
+-- The words of the thread and of the exit at place i, their codes as they stand, listed or not: what the record says of the rest.
+
+abbrev pub thread_row_words : List ℕ → ℕ → List ℕ
+thread_row_words l i =
+    let r = thread_at l i in
+    r.id ∷ slice_index l (i * 21 + 2) ∷ slice_index l (i * 21 + 2 + 1) ∷ slice_index l (i * 21 + 2 + 2) ∷ slice_index l (i * 21 + 5) ∷ slice_index l (i * 21 + 5 + 1)
+    ∷ slice_index l (i * 21 + 7) ∷ slice_index l (i * 21 + 7 + 1) ∷ slice_index l (i * 21 + 7 + 2) ∷ slice_index l (i * 21 + 7 + 3)
+    ∷ r.it.context.rip ∷ r.it.context.rsp ∷ r.it.context.rflags ∷ r.it.context.rdi ∷ r.it.context.rsi ∷ r.it.context.cs ∷ r.it.context.ss
+    ∷ r.it.results.first ∷ r.it.results.second ∷ r.it.results.third ∷ r.it.ticks ∷ []
+
+abbrev pub exit_row_words : List ℕ → ℕ → List ℕ
+exit_row_words l i = (exit_at l i).thread ∷ slice_index l (i * 2 + 2) ∷ []
+
+-- word c of each
+thread_field : (l : List ℕ) (i c : ℕ) → c < 21 → slice_index (thread_row_words l i) c ≡ slice_index l (i * 21 + suc c)
+thread_field l i zero h = refl
+thread_field l i (suc zero) h = refl
+thread_field l i (suc (suc zero)) h = ap (λ (o : ℕ). slice_index l o) (add_assoc (i * 21) 2 1)
+thread_field l i (suc (suc (suc zero))) h = ap (λ (o : ℕ). slice_index l o) (add_assoc (i * 21) 2 2)
+thread_field l i (suc (suc (suc (suc zero)))) h = refl
+thread_field l i (suc (suc (suc (suc (suc zero))))) h = ap (λ (o : ℕ). slice_index l o) (add_assoc (i * 21) 5 1)
+thread_field l i (suc (suc (suc (suc (suc (suc zero)))))) h = refl
+thread_field l i (suc (suc (suc (suc (suc (suc (suc zero))))))) h = ap (λ (o : ℕ). slice_index l o) (add_assoc (i * 21) 7 1)
+thread_field l i (suc (suc (suc (suc (suc (suc (suc (suc zero)))))))) h = ap (λ (o : ℕ). slice_index l o) (add_assoc (i * 21) 7 2)
+thread_field l i (suc (suc (suc (suc (suc (suc (suc (suc (suc zero))))))))) h = ap (λ (o : ℕ). slice_index l o) (add_assoc (i * 21) 7 3)
+thread_field l i (suc (suc (suc (suc (suc (suc (suc (suc (suc (suc zero)))))))))) h = refl
+thread_field l i (suc (suc (suc (suc (suc (suc (suc (suc (suc (suc (suc zero))))))))))) h = ap (λ (o : ℕ). slice_index l o) (add_assoc (i * 21) 11 1)
+thread_field l i (suc (suc (suc (suc (suc (suc (suc (suc (suc (suc (suc (suc zero)))))))))))) h = ap (λ (o : ℕ). slice_index l o) (add_assoc (i * 21) 11 2)
+thread_field l i (suc (suc (suc (suc (suc (suc (suc (suc (suc (suc (suc (suc (suc zero))))))))))))) h = ap (λ (o : ℕ). slice_index l o) (add_assoc (i * 21) 11 3)
+thread_field l i (suc (suc (suc (suc (suc (suc (suc (suc (suc (suc (suc (suc (suc (suc zero)))))))))))))) h = ap (λ (o : ℕ). slice_index l o) (add_assoc (i * 21) 11 4)
+thread_field l i (suc (suc (suc (suc (suc (suc (suc (suc (suc (suc (suc (suc (suc (suc (suc zero))))))))))))))) h = ap (λ (o : ℕ). slice_index l o) (add_assoc (i * 21) 11 5)
+thread_field l i (suc (suc (suc (suc (suc (suc (suc (suc (suc (suc (suc (suc (suc (suc (suc (suc zero)))))))))))))))) h = ap (λ (o : ℕ). slice_index l o) (add_assoc (i * 21) 11 6)
+thread_field l i (suc (suc (suc (suc (suc (suc (suc (suc (suc (suc (suc (suc (suc (suc (suc (suc (suc zero))))))))))))))))) h = refl
+thread_field l i (suc (suc (suc (suc (suc (suc (suc (suc (suc (suc (suc (suc (suc (suc (suc (suc (suc (suc zero)))))))))))))))))) h = ap (λ (o : ℕ). slice_index l o) (add_assoc (i * 21) 18 1)
+thread_field l i (suc (suc (suc (suc (suc (suc (suc (suc (suc (suc (suc (suc (suc (suc (suc (suc (suc (suc (suc zero))))))))))))))))))) h = ap (λ (o : ℕ). slice_index l o) (add_assoc (i * 21) 18 2)
+thread_field l i (suc (suc (suc (suc (suc (suc (suc (suc (suc (suc (suc (suc (suc (suc (suc (suc (suc (suc (suc (suc zero)))))))))))))))))))) h = refl
+thread_field l i (suc (suc (suc (suc (suc (suc (suc (suc (suc (suc (suc (suc (suc (suc (suc (suc (suc (suc (suc (suc (suc c))))))))))))))))))))) h = absurd (omega arith)
+
+exit_field : (l : List ℕ) (i c : ℕ) → c < 2 → slice_index (exit_row_words l i) c ≡ slice_index l (i * 2 + suc c)
+exit_field l i zero h = refl
+exit_field l i (suc zero) h = refl
+exit_field l i (suc (suc c)) h = absurd (omega arith)
+
+-- they are those of the records, where the codes are listed, and so is word c
 module _ (l : List ℕ) (z : threads_listed l ≡ true) (i : ℕ) (a : i < slice_index l 0) where
-  thread_field : (c : ℕ) → c < 21 → slice_index (thread_fields (thread_at l i)) c ≡ slice_index l (i * 21 + suc c)
-  thread_field zero h = refl
-  thread_field (suc zero) h = (state_words l z i a).state
-  thread_field (suc (suc zero)) h = (state_words l z i a).kind ∙ ap (λ (o : ℕ). slice_index l o) (add_assoc (i * 21) 2 1)
-  thread_field (suc (suc (suc zero))) h = (state_words l z i a).number ∙ ap (λ (o : ℕ). slice_index l o) (add_assoc (i * 21) 2 2)
-  thread_field (suc (suc (suc (suc zero)))) h = (budget_words l z i a).is
-  thread_field (suc (suc (suc (suc (suc zero))))) h = (budget_words l z i a).id ∙ ap (λ (o : ℕ). slice_index l o) (add_assoc (i * 21) 5 1)
-  thread_field (suc (suc (suc (suc (suc (suc zero)))))) h = (spaces_words l z i a).is
-  thread_field (suc (suc (suc (suc (suc (suc (suc zero))))))) h = (spaces_words l z i a).space ∙ ap (λ (o : ℕ). slice_index l o) (add_assoc (i * 21) 7 1)
-  thread_field (suc (suc (suc (suc (suc (suc (suc (suc zero)))))))) h = (spaces_words l z i a).cspace ∙ ap (λ (o : ℕ). slice_index l o) (add_assoc (i * 21) 7 2)
-  thread_field (suc (suc (suc (suc (suc (suc (suc (suc (suc zero))))))))) h = (spaces_words l z i a).root ∙ ap (λ (o : ℕ). slice_index l o) (add_assoc (i * 21) 7 3)
-  thread_field (suc (suc (suc (suc (suc (suc (suc (suc (suc (suc zero)))))))))) h = refl
-  thread_field (suc (suc (suc (suc (suc (suc (suc (suc (suc (suc (suc zero))))))))))) h = ap (λ (o : ℕ). slice_index l o) (add_assoc (i * 21) 11 1)
-  thread_field (suc (suc (suc (suc (suc (suc (suc (suc (suc (suc (suc (suc zero)))))))))))) h = ap (λ (o : ℕ). slice_index l o) (add_assoc (i * 21) 11 2)
-  thread_field (suc (suc (suc (suc (suc (suc (suc (suc (suc (suc (suc (suc (suc zero))))))))))))) h = ap (λ (o : ℕ). slice_index l o) (add_assoc (i * 21) 11 3)
-  thread_field (suc (suc (suc (suc (suc (suc (suc (suc (suc (suc (suc (suc (suc (suc zero)))))))))))))) h = ap (λ (o : ℕ). slice_index l o) (add_assoc (i * 21) 11 4)
-  thread_field (suc (suc (suc (suc (suc (suc (suc (suc (suc (suc (suc (suc (suc (suc (suc zero))))))))))))))) h = ap (λ (o : ℕ). slice_index l o) (add_assoc (i * 21) 11 5)
-  thread_field (suc (suc (suc (suc (suc (suc (suc (suc (suc (suc (suc (suc (suc (suc (suc (suc zero)))))))))))))))) h = ap (λ (o : ℕ). slice_index l o) (add_assoc (i * 21) 11 6)
-  thread_field (suc (suc (suc (suc (suc (suc (suc (suc (suc (suc (suc (suc (suc (suc (suc (suc (suc zero))))))))))))))))) h = refl
-  thread_field (suc (suc (suc (suc (suc (suc (suc (suc (suc (suc (suc (suc (suc (suc (suc (suc (suc (suc zero)))))))))))))))))) h = ap (λ (o : ℕ). slice_index l o) (add_assoc (i * 21) 18 1)
-  thread_field (suc (suc (suc (suc (suc (suc (suc (suc (suc (suc (suc (suc (suc (suc (suc (suc (suc (suc (suc zero))))))))))))))))))) h = ap (λ (o : ℕ). slice_index l o) (add_assoc (i * 21) 18 2)
-  thread_field (suc (suc (suc (suc (suc (suc (suc (suc (suc (suc (suc (suc (suc (suc (suc (suc (suc (suc (suc (suc zero)))))))))))))))))))) h = refl
-  thread_field (suc (suc (suc (suc (suc (suc (suc (suc (suc (suc (suc (suc (suc (suc (suc (suc (suc (suc (suc (suc (suc c))))))))))))))))))))) h = absurd (omega arith)
+  thread_row_listed : thread_fields (thread_at l i) ≡ thread_row_words l i
+  thread_row_listed =
+      let s = state_words l z i a in
+      let b = budget_words l z i a in
+      let p = spaces_words l z i a in
+      λ t. sets (thread_row_words l i) 1 (s.state t ∷ s.kind t ∷ s.number t ∷ b.is t ∷ b.id t ∷ p.is t ∷ p.space t ∷ p.cspace t ∷ p.root t ∷ [])
 
-exit_field : (l : List ℕ) → exits_listed l ≡ true → (i c : ℕ) → i < slice_index l 0 → c < 2 → slice_index (exit_fields (exit_at l i)) c ≡ slice_index l (i * 2 + suc c)
-exit_field l z i zero a h = refl
-exit_field l z i (suc zero) a h = cause_same _ (cause_words l z i a)
-exit_field l z i (suc (suc c)) a h = absurd (omega arith)
+  listed_thread_field : (c : ℕ) → c < 21 → slice_index (thread_fields (thread_at l i)) c ≡ slice_index l (i * 21 + suc c)
+  listed_thread_field c h = ap (λ (ws : List ℕ). slice_index ws c) thread_row_listed ∙ thread_field l i c h
+
+listed_exit_field : (l : List ℕ) → exits_listed l ≡ true → (i c : ℕ) → i < slice_index l 0 → c < 2 → slice_index (exit_fields (exit_at l i)) c ≡ slice_index l (i * 2 + suc c)
+listed_exit_field l z i c a h =
+    ap (λ (n : ℕ). slice_index ((exit_at l i).thread ∷ n ∷ []) c) (cause_same _ (cause_words l z i a)) ∙ exit_field l i c h
 
 -- tables of rows of any kind
 module _ {A : Type 0} (fields : A → List ℕ) (w : ℕ) (wide : (a : A) → length (fields a) ≡ w) (some : 1 ≤ w) where
@@ -137,49 +166,80 @@ unfolding sound_area
 asked_shown a k =
     rw (eq-eqb (length a) 68_144 k.size, k.registry, k.threads_listed, k.exits_listed, k.sound, k.threads, le-leb (slice_index (words (queue_part a)) 0) 127 k.count, k.queue, k.exits)
 
+-- an area that is laid out is well formed where its codes are listed
+pub laid_formed : (a : List ℕ) → LaidOut a → threads_listed (words (threads_part a)) ≡ true → exits_listed (words (exits_part a)) ≡ true → WellFormed a
+unfolding threads_in exits_in
+laid_formed a k t e =
+    let few = k.few in
+    let count = k.count in
+    let logged = k.logged in
+    record {
+      size = k.size;
+      registry = record { sound = k.registry; same = refl };
+      current = refl;
+      switches = refl;
+      threads = stored thread_fields 21 (threads_part a) (decode a).threads
+          (rows_hold thread_fields 21 wide (omega arith) thread_at no_row (words (threads_part a)) (λ i c b h. listed_thread_field (words (threads_part a)) t i b c h) (omega (arith, threads_size a k.size)) k.threads);
+      rising = k.rising;
+      queue = stored one 1 (queue_part a) (decode a).queue (queue_hold (words (queue_part a)) (omega (arith, queue_size a k.size)) k.queue);
+      exits = stored exit_fields 2 (exits_part a) (decode a).exits
+          (rows_hold exit_fields 2 wide_exit (omega arith) exit_at no_exit (words (exits_part a)) (listed_exit_field (words (exits_part a)) e) (omega (arith, exits_size a k.size)) k.exits);
+    }
+
+-- and back
+pub formed_laid : (a : List ℕ) → WellFormed a → LaidOut a
+formed_laid a k = record {
+  size = k.size;
+  registry = k.registry.sound;
+  few = omega (arith, k.threads.holds.count, k.threads.holds.size, threads_size a k.size);
+  threads = hold_zeros thread_fields 21 wide (omega arith) (words (threads_part a)) (decode a).threads k.threads.holds;
+  rising = k.rising;
+  count = omega (arith, k.queue.holds.count, k.queue.holds.size, queue_size a k.size);
+  queue = hold_zeros one 1 wide_one (omega arith) (words (queue_part a)) (decode a).queue k.queue.holds;
+  logged = omega (arith, k.exits.holds.count, k.exits.holds.size, exits_size a k.size);
+  exits = hold_zeros exit_fields 2 wide_exit (omega arith) (words (exits_part a)) (decode a).exits k.exits.holds;
+}
+
 -- a sound area says a sound board, and is well formed
 module _ (a : List ℕ) (s : sound_area a ≡ true) where
   pub area_sound : Sound (decode a)
   area_sound = sound_told (decode a) (asked_told a s).sound
 
-  pub area_formed : WellFormed a
+  area_laid : LaidOut a
   unfolding threads_in exits_in
-  area_formed =
+  area_laid =
       let k = asked_told a s in
       let o = area_sound in
-      let few : slice_index_or (words (threads_part a)) 0 0 ≤ 128 = rw length_tab at o.few in
-      let logged : slice_index_or (words (exits_part a)) 0 0 ≤ 32 = rw length_tab at o.few_exits in
-      let q = k.count in
       record {
         size = k.size;
-        registry = record { sound = k.registry; same = refl };
-        current = refl;
-        switches = refl;
-        threads = stored thread_fields 21 (threads_part a) (decode a).threads
-            (rows_hold thread_fields 21 wide (omega arith) thread_at no_row (words (threads_part a)) (λ i c b h. thread_field (words (threads_part a)) k.threads_listed i b c h) (omega (arith, threads_size a k.size)) k.threads);
+        registry = k.registry;
+        few = rw length_tab at o.few;
+        threads = k.threads;
         rising = o.rising;
-        queue = stored one 1 (queue_part a) (decode a).queue (queue_hold (words (queue_part a)) (omega (arith, queue_size a k.size)) k.queue);
-        exits = stored exit_fields 2 (exits_part a) (decode a).exits
-            (rows_hold exit_fields 2 wide_exit (omega arith) exit_at no_exit (words (exits_part a)) (exit_field (words (exits_part a)) k.exits_listed) (omega (arith, exits_size a k.size)) k.exits);
+        count = k.count;
+        queue = k.queue;
+        logged = rw length_tab at o.few_exits;
+        exits = k.exits;
       }
+
+  pub area_formed : WellFormed a
+  area_formed = laid_formed a area_laid (asked_told a s).threads_listed (asked_told a s).exits_listed
 
 -- and back: what is left of a sound board is a sound area
 pub is_area : (a : List ℕ) (s : Board) → Leaves a s → Sound s → Is a s
 is_area a s l h =
-    let k = l.formed in
-    let c = k.queue.holds.count in
-    let n = k.queue.holds.size in
+    let k = formed_laid a l.formed in
     record {
       sound = asked_shown a (record {
         size = k.size;
-        registry = k.registry.sound;
-        threads_listed = threads_are_listed (words (threads_part a)) (decode a).threads k.threads.holds;
-        exits_listed = exits_are_listed (words (exits_part a)) (decode a).exits k.exits.holds;
+        registry = k.registry;
+        threads_listed = threads_are_listed (words (threads_part a)) (decode a).threads l.formed.threads.holds;
+        exits_listed = exits_are_listed (words (exits_part a)) (decode a).exits l.formed.exits.holds;
         sound = sound_shown (decode a) (subst Sound (sym l.is) h);
-        threads = hold_zeros thread_fields 21 wide (omega arith) (words (threads_part a)) (decode a).threads k.threads.holds;
-        count = omega (arith, queue_size a k.size);
-        queue = hold_zeros one 1 wide_one (omega arith) (words (queue_part a)) (decode a).queue k.queue.holds;
-        exits = hold_zeros exit_fields 2 wide_exit (omega arith) (words (exits_part a)) (decode a).exits k.exits.holds;
+        threads = k.threads;
+        count = k.count;
+        queue = k.queue;
+        exits = k.exits;
       });
       same = l.is;
     }

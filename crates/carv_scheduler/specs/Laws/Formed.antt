@@ -1,12 +1,13 @@
 -- A board's area that is well formed: it has its length, its registry is sound, and its words are a head, a table of threads with rising ids, a queue and a log.
 -- What a change of one part leaves. Assumes nothing.
-use Rattle.std.specs.Prelude.{◌≡◌, ℕ, ◌+◌, ◌^◌, ◌≤◌, List, length, slice_index, slice_index_or, refl}
+use Rattle.std.specs.Prelude.{◌≡◌, ℕ, ◌+◌, ◌^◌, ◌≤◌, true, List, length, slice_index, slice_index_or, refl}
 use native.Mathlib.Omega.{arith}
 use Rattle.std.proofs.Common.{sym, ◌∙◌, subst}
 use Rattle.std.proofs.Math.Path.{ap}
 use Rattle.carv_area.specs.Table.{Row, Rising}
 use Rattle.carv_area.specs.Words.{words}
 use Rattle.carv_area.specs.Parts.{part, put_part}
+use Rattle.carv_area.specs.Zero.{all_zero}
 use Rattle.carv_area.specs.Laws.Parts.{length_put, part_same, part_before, part_after}
 use Rattle.carv_area.specs.Stored.{Stored, Queue}
 use Rattle.carv_area.specs.Laws.Stored.{queue_is}
@@ -16,7 +17,7 @@ use Rattle.carv_scheduler_spec.specs.declared.Thread.{Thread}
 use Rattle.carv_scheduler_spec.specs.declared.Exit.{Exit}
 use Rattle.carv_scheduler_spec.specs.declared.Cause.{Cause}
 use Rattle.carv_scheduler_spec.specs.Scheduler.{Board}
-use Rattle.carv_scheduler.specs.Area.{registry_part, head, threads_part, queue_part, exits_part, thread_fields, exit_fields, decode}
+use Rattle.carv_scheduler.specs.Area.{registry_part, head, threads_part, queue_part, exits_part, thread_fields, exit_fields, decode, behind}
 use Rattle.carv_scheduler.specs.Laws.Rows.{threads_in_are, exits_in_are}
 
 -- the bytes a are those of the board s
@@ -33,6 +34,19 @@ pub record Formed (a : List ℕ) (s : Board) : Type 0 where
 -- what every inner function asks
 abbrev pub WellFormed : List ℕ → Type 0
 WellFormed a = Formed a (decode a)
+
+-- The bytes a are laid out as a board's, whatever the codes of its threads and exits: their length, a sound registry, room for the rows of each table and zeros behind
+-- them, and rising ids. With listed codes it is well formed: `laid_formed` and `formed_laid` of AreaLaws.
+pub record LaidOut (a : List ℕ) : Type 0 where
+  pub size : length a ≡ 68_144
+  pub registry : objects.sound_area (registry_part a) ≡ true
+  pub few : slice_index_or (words (threads_part a)) 0 0 ≤ 128
+  pub threads : all_zero (behind 21 (words (threads_part a))) ≡ true
+  pub rising : Rising 0 (2 ^ 64) (decode a).threads
+  pub count : slice_index_or (words (queue_part a)) 0 0 ≤ 127
+  pub queue : all_zero (behind 1 (words (queue_part a))) ≡ true
+  pub logged : slice_index_or (words (exits_part a)) 0 0 ≤ 32
+  pub exits : all_zero (behind 2 (words (exits_part a))) ≡ true
 
 -- what every inner function leaves: a well-formed area that says s
 pub record Leaves (a : List ℕ) (s : Board) : Type 0 where

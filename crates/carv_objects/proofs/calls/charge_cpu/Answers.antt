@@ -3,6 +3,7 @@ use Rattle.carv_objects.proofs.Rules.{met}
 use mathlib.Core.Path.{refl}
 use Rattle.carv_objects.specs.Laws.Formed.{leaves_as}
 use Rattle.carv_objects.specs.Laws.AreaSteps.{budget_here}
+use Rattle.carv_objects.specs.Laws.AreaLaws.{sound_laid}
 use Rattle.carv_objects.specs.Laws.Calls.{area_sound, area_formed, account_at_sound, refused_after, answered, booked_yes, booked_no, spend_left, spent_by, kept_at}
 use Rattle.carv_objects_spec.proofs.Laws.Questions.{charge_cpu_above, charge_cpu_done}
 use Rattle.carv_objects_spec.proofs.Laws.Kept.{charge_cpu_kept}
@@ -13,9 +14,9 @@ pub find_budget-requires : goal.find_budget-requires
 find_budget-requires c =
     area_formed _ c.requires
 
-pub account_at-account-requires-clause-well_formed : goal.account_at-account-requires-clause-well_formed
-account_at-account-requires-clause-well_formed c =
-    area_formed _ c.requires
+pub account_at-account-requires-clause-laid_out : goal.account_at-account-requires-clause-laid_out
+account_at-account-requires-clause-laid_out c =
+    sound_laid _ c.requires
 
 pub spend-requires : goal.spend-requires
 spend-requires c =

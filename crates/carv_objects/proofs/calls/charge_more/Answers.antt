@@ -1,6 +1,7 @@
 -- `carv_objects::calls::charge_more` meets its contract. Assumes nothing.
 use Rattle.carv_objects.proofs.Rules.{met}
 use Rattle.carv_objects.specs.Laws.AreaSteps.{located_here}
+use Rattle.carv_objects.specs.Laws.AreaLaws.{sound_laid}
 use Rattle.carv_objects.specs.Laws.Calls.{area_sound, area_formed, booked_yes}
 use native.Mathlib.Omega.{arith}
 use Rattle.carv_objects.specs.Laws.CallSteps.{payer_has, payer_sound, charge_fits, charge_more_served}
@@ -21,7 +22,7 @@ payer_place-j-requires c =
 
 pub account_at-account-requires : goal.account_at-account-requires
 account_at-account-requires c =
-    record { well_formed = area_formed _ c.requires; i_in_bounds = c.payer_place-j.ensures.within }
+    record { laid_out = sound_laid _ c.requires; i_in_bounds = c.payer_place-j.ensures.within }
 
 pub charge-requires : goal.charge-requires
 charge-requires c =

@@ -6,6 +6,7 @@ use mathlib.Core.Path.{ap}
 use Rattle.carv_objects.proofs.Rules.{said_so}
 use Rattle.carv_objects.specs.Laws.Formed.{leaves_as}
 use Rattle.carv_objects.specs.Laws.AreaSteps.{budget_here}
+use Rattle.carv_objects.specs.Laws.AreaLaws.{sound_laid}
 use Rattle.carv_objects.specs.Laws.Calls.{area_sound, area_formed, account_at_sound, refused_after, answered, booked_yes, carved_yes, carved_no, free_here, charged_sound, carve_refused, carve_left, carve_memory, stored_budget, kept_at}
 use Rattle.carv_objects_spec.proofs.Laws.Questions.{create_budget_carve, create_budget_done}
 use Rattle.carv_objects_spec.proofs.Laws.Kept.{create_budget_kept}
@@ -23,7 +24,7 @@ find_budget-requires c =
 
 pub account_at-account-requires : goal.account_at-account-requires
 account_at-account-requires c =
-    record { well_formed = area_formed _ c.requires; i_in_bounds = (budget_here (decode c.args.a.now) _ _ c.find_budget.ensures _ (met c.ok_or.ensures.ok_part c.in_ok-i.was)).0.within }
+    record { laid_out = sound_laid _ c.requires; i_in_bounds = (budget_here (decode c.args.a.now) _ _ c.find_budget.ensures _ (met c.ok_or.ensures.ok_part c.in_ok-i.was)).0.within }
 
 pub charge-requires : goal.charge-requires
 charge-requires c =

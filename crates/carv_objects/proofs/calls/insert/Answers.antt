@@ -7,6 +7,7 @@ use mathlib.Core.Path.{ap, sym, ◌∙◌}
 use Rattle.carv_objects.specs.Laws.Formed.{leaves_as}
 use Rattle.carv_objects.specs.Laws.Codes.{named_some, listed_named, other_named, stored_named}
 use Rattle.carv_objects.specs.Laws.AreaSteps.{budget_here}
+use Rattle.carv_objects.specs.Laws.AreaLaws.{sound_laid}
 use Rattle.carv_objects.specs.Laws.Calls.{area_sound, area_formed, account_at_sound, answered, booked_yes, free_here, kept_at}
 use Rattle.carv_objects_spec.proofs.Laws.Questions.{insert_done}
 use Rattle.carv_objects_spec.proofs.Laws.Kept.{insert_kept}
@@ -24,7 +25,7 @@ find_budget-requires c =
 
 pub account_at-account-requires : goal.account_at-account-requires
 account_at-account-requires c =
-    record { well_formed = area_formed _ c.requires; i_in_bounds = (budget_here (decode c.args.a.now) _ _ c.find_budget.ensures _ (met c.ok_or-2.ensures.ok_part c.in_ok-i.was)).0.within }
+    record { laid_out = sound_laid _ c.requires; i_in_bounds = (budget_here (decode c.args.a.now) _ _ c.find_budget.ensures _ (met c.ok_or-2.ensures.ok_part c.in_ok-i.was)).0.within }
 
 pub charge-requires : goal.charge-requires
 charge-requires c =

@@ -2,6 +2,7 @@
 use Rattle.carv_objects.proofs.Rules.{met}
 use mathlib.Core.Path.{sym, ◌∙◌}
 use Rattle.carv_objects.specs.Laws.AreaSteps.{located_here}
+use Rattle.carv_objects.specs.Laws.AreaLaws.{sound_laid}
 use Rattle.carv_objects.specs.Laws.Calls.{area_sound, area_formed}
 use native.Mathlib.Omega.{arith}
 use Rattle.carv_objects.specs.Laws.CallSteps.{payer_has, payer_sound, child_sound, credit_asks, returned_asks, remove_plain, remove_in_use, remove_returnable, remove_served}
@@ -22,7 +23,7 @@ payer_place-j-requires c =
 
 pub account_at-account-requires : goal.account_at-account-requires
 account_at-account-requires c =
-    record { well_formed = area_formed _ c.requires; i_in_bounds = c.payer_place-j.ensures.within }
+    record { laid_out = sound_laid _ c.requires; i_in_bounds = c.payer_place-j.ensures.within }
 
 pub credit-paid-requires : goal.credit-paid-requires
 credit-paid-requires c =

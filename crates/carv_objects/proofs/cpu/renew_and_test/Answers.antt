@@ -1,5 +1,6 @@
 -- `carv_objects::cpu::renew_and_test` meets its contract. Assumes nothing.
 use Rattle.carv_objects.specs.Laws.AreaSteps.{budget_here}
+use Rattle.carv_objects.specs.Laws.AreaLaws.{sound_laid}
 use Rattle.carv_objects.specs.Laws.Calls.{area_formed, account_at_sound}
 use Rattle.carv_objects.specs.Laws.Cpu.{cpu_left, renewed_is, renews}
 use Rattle.carv_objects.specs.Area.{decode}
@@ -9,9 +10,9 @@ pub find_budget-requires : goal.find_budget-requires
 find_budget-requires c =
     area_formed _ c.requires
 
-pub account_at-account-requires-clause-well_formed : goal.account_at-account-requires-clause-well_formed
-account_at-account-requires-clause-well_formed c =
-    area_formed _ c.requires
+pub account_at-account-requires-clause-laid_out : goal.account_at-account-requires-clause-laid_out
+account_at-account-requires-clause-laid_out c =
+    sound_laid _ c.requires
 
 pub renew-renewed-requires : goal.renew-renewed-requires
 renew-renewed-requires c =

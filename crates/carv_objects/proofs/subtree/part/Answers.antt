@@ -1,12 +1,13 @@
 -- `carv_objects::subtree::part` meets its contract. Assumes nothing.
-use Rattle.carv_objects.specs.Laws.Calls.{area_sound, area_formed}
+use Rattle.carv_objects.specs.Laws.AreaLaws.{sound_laid}
+use Rattle.carv_objects.specs.Laws.Calls.{area_sound}
 use Rattle.carv_objects.specs.Laws.TotalSteps.{place_sound}
 use Rattle.carv_objects.specs.Area.{decode}
 use Rattle.carv_objects.proofs.subtree.part.Goals as goal
 
-pub account_at-c-requires-clause-well_formed : goal.account_at-c-requires-clause-well_formed
-account_at-c-requires-clause-well_formed c =
-    area_formed _ c.requires.a_value
+pub account_at-c-requires-clause-laid_out : goal.account_at-c-requires-clause-laid_out
+account_at-c-requires-clause-laid_out c =
+    sound_laid _ c.requires.a_value
 
 pub free-requires : goal.free-requires
 free-requires c =
