@@ -1,9 +1,9 @@
 // The registry's area: its parts, each lent to one function of the table. docs/LAYOUT.md has the layout.
-// That it is well formed is asked in each contract, and is no type's invariant. `Registry<'a> { bytes: &'a mut [u8], ghost formed: { WellFormed
-// bytes.now } }` with a method `set_account` was tried: each `&mut` method has a clause that `bytes` keeps its reference, one for the one that
-// the field saves, and a ghost field must be a proposition, and `WellFormed`, as it is stated, is none. A reader over `&'a [u8]` was tried in
-// calls.rt: the writers would still have the clause, and would make a reader at each reading. That a place is one of the table's is a clause,
-// too: it is a number, which stays when rows move.
+// That it is well formed, or laid out, is asked in each contract, and is no type's invariant. `Registry<'a> { bytes: &'a mut [u8], ghost
+// formed: { WellFormed bytes.now } }` with a method `set_account` was tried: each `&mut` method has a clause that `bytes` keeps its
+// reference, one for the one that the field saves, and a ghost field must be a proposition, and `WellFormed`, as it is stated, is none. A
+// reader over `&'a [u8]` was tried in calls.rt: the writers would still have the clause, and would make a reader at each reading. That a
+// place is one of the table's is a clause, too: it is a number, which stays when rows move.
 ghost use Rattle.std.specs.Prelude.{◌≡◌, true, ◌&&◌, [], ◌∷◌, ◌++◌, ◌+◌, ◌*◌, ◌≤◌, ◌<◌, length, get_or};
 ghost use Rattle.carv_area.specs.Table.{Rising};
 ghost use Rattle.carv_area.specs.Rows.{remove_at};

@@ -20,7 +20,7 @@ use Rattle.carv_objects_spec.proofs.Laws.Charging as charging
 use Rattle.carv_objects_spec.proofs.Laws.Questions as asks
 use Rattle.carv_objects_spec.proofs.Laws.SoundLaws.{sound_shown}
 use Rattle.carv_objects.specs.Laws.Rows.{no_row}
-use Rattle.carv_objects.specs.Laws.Calls as registry_calls
+use Rattle.carv_objects.specs.Laws.AreaLaws.{sound_laid}
 use Rattle.carv_objects.specs.Laws.CallSteps.{limit_fits}
 use Rattle.carv_scheduler_spec.specs.Scheduler.{Board, with_registry, lift_value}
 use Rattle.carv_scheduler_spec.specs.Book.{Call, on_objects}
@@ -304,7 +304,7 @@ limit_below a bytes s p = go (at (decode a).registry.rows p) refl
         let k = area_formed a s in
         let (j, within, q) = place (decode a).registry.rows e h in
         subst (λ (x : Entry). x.account.memory_limit < 2 ^ 64) q
-        (limit_fits (registry_part a) (registry_calls.area_formed (registry_part a) k.registry.sound) (part_bytes 0 45_072 a (omega (arith, k.size)) bytes) j within)
+        (limit_fits (registry_part a) (sound_laid (registry_part a) k.registry.sound) (part_bytes 0 45_072 a (omega (arith, k.size)) bytes) j within)
 
 -- a list of charges es, against one of their sum
 module _ (i n : ℕ) (ns : List ℕ) (a : List ℕ) (es : List Made) (C : Charges i (n ∷ ns) a es) where

@@ -12,7 +12,6 @@ use Rattle.carv_area.specs.Words.{words}
 use Rattle.carv_area.specs.Rows.{flat}
 use Rattle.carv_area.specs.Laws.Rows.{holds_word}
 use Rattle.carv_objects_spec.specs.declared.kind.Kind.TheVariants.{Frame}
-use Rattle.carv_objects_spec.specs.declared.Entry.{Entry}
 use Rattle.carv_objects_spec.specs.Kinds.{code, listed}
 use Rattle.carv_objects_spec.specs.Registry.{plain}
 use Rattle.carv_objects_spec.proofs.Laws.Unsound.{with_second}
@@ -31,10 +30,10 @@ stored_code a s i b =
 -- An area that is laid out stays so whatever word is put for a kind.
 
 -- ids go up as those of other rows do that have the same ids
-pub rising_ids : {A B : Type 0} (n low high : ℕ) (f : ℕ → Row A) (g : ℕ → Row B) → ((j : ℕ) → (g j).id ≡ (f j).id) → Rising low high (tab n f) → Rising low high (tab n g)
+pub rising_alike : {A B : Type 0} (n low high : ℕ) (f : ℕ → Row A) (g : ℕ → Row B) → ((j : ℕ) → (g j).id ≡ (f j).id) → Rising low high (tab n f) → Rising low high (tab n g)
 unfolding tab
-rising_ids zero low high f g e u = u
-rising_ids (suc n) low high f g e u = rw (e zero) (u.0, rising_ids n (suc (f zero).id) high (λ j. f (suc j)) (λ j. g (suc j)) (λ j. e (suc j)) u.1)
+rising_alike zero low high f g e u = u
+rising_alike (suc n) low high f g e u = rw (e zero) (u.0, rising_alike n (suc (f zero).id) high (λ j. f (suc j)) (λ j. g (suc j)) (λ j. e (suc j)) u.1)
 
 -- the number of rows, each w words, and the words behind them, where word k of a row is written
 module _ (w : ℕ) (l : List ℕ) (k n : ℕ) (some : 1 ≤ k) (inside : k < get_or l 0 0 * w + 1) where
@@ -63,7 +62,7 @@ any_kind a p k z i n b q =
       size = length_put 8 45_064 a p fits z ∙ k.size;
       few = rw (t, c) k.few;
       zeros = rw (t, zeros_kept 11 l (i * 11 + 2) n some inside) k.zeros;
-      rising = rw (t, h, c) (rising_ids (get_or l 0 0) 1 _ (row_at l) (row_at (set l (i * 11 + 2) n)) id k.rising);
+      rising = rw (t, h, c) (rising_alike (get_or l 0 0) 1 _ (row_at l) (row_at (set l (i * 11 + 2) n)) id k.rising);
     }
 
 -- The words of carv_objects_spec's sound registry of four objects, the Frame, its second, with this word for its kind: 0, the first and the last code, and one more.

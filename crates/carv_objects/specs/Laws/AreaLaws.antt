@@ -112,15 +112,25 @@ flat_rows x l n h = flat_words (row_words (x ∷ l)) (λ i. i) (λ i. refl) x l 
 pub listed_rows : (x : ℕ) (l : List ℕ) (n : ℕ) → n * 11 ≤ length l → Listed (x ∷ l) n → flat fields (tab n (row_at (x ∷ l))) ≡ take (n * 11) l
 listed_rows x l n h named = flat_words fields (row_at (x ∷ l)) wide x l n h (λ i c a b. listed_field (x ∷ l) i c b (named i a))
 
--- words whose rows are followed by zeros are a table
-rows_hold : (l : List ℕ) → get_or l 0 0 * 11 + 1 ≤ length l → Listed l (get_or l 0 0) → all_zero (drop (get_or l 0 0 * 11 + 1) l) ≡ true → Holds fields 11 l (rows_in l)
-unfolding rows_in
-rows_hold [] h named z = absurd (omega arith)
-rows_hold (n ∷ l) h named z =
+-- words whose rows are followed by zeros are a table: of rows that have the words
+words_hold : {A : Type 0} (words_of : A → List ℕ) (at : ℕ → A) → ((r : A) → length (words_of r) ≡ 11) → (n : ℕ) (l : List ℕ) → n * 11 ≤ length l
+    → all_zero (drop (n * 11 + 1) (n ∷ l)) ≡ true → flat words_of (tab n at) ≡ take (n * 11) l → Holds words_of 11 (n ∷ l) (tab n at)
+words_hold words_of at eleven n l h z q =
     let e : n * 11 + 1 ≡ suc (n * 11) = omega arith in
     let d : all_zero (drop (n * 11) l) ≡ true = rw e at z in
-    hold fields 11 wide (n ∷ l) (tab n (row_at (n ∷ l))) (length (drop (n * 11) l))
-    (rw (length_tab n (row_at (n ∷ l)), listed_rows n l n (omega arith) named, ← (all_zero_lem (drop (n * 11) l) d), take-append-drop (n * 11) l))
+    hold words_of 11 eleven (n ∷ l) (tab n at) (length (drop (n * 11) l))
+    (rw (length_tab n at, q, ← (all_zero_lem (drop (n * 11) l) d), take-append-drop (n * 11) l))
+
+-- of the rows' words as they stand
+pub rows_hold : (l : List ℕ) → get_or l 0 0 * 11 + 1 ≤ length l → all_zero (drop (get_or l 0 0 * 11 + 1) l) ≡ true → Holds (row_words l) 11 l (tab (get_or l 0 0) (λ i. i))
+rows_hold [] h z = absurd (omega arith)
+rows_hold (n ∷ l) h z = words_hold (row_words (n ∷ l)) (λ i. i) (λ i. refl) n l (omega arith) z (flat_rows n l n (omega arith))
+
+-- and of what their records say, where their kinds are listed
+listed_hold : (l : List ℕ) → get_or l 0 0 * 11 + 1 ≤ length l → Listed l (get_or l 0 0) → all_zero (drop (get_or l 0 0 * 11 + 1) l) ≡ true → Holds fields 11 l (rows_in l)
+unfolding rows_in
+listed_hold [] h named z = absurd (omega arith)
+listed_hold (n ∷ l) h named z = words_hold fields (row_at (n ∷ l)) wide n l (omega arith) z (listed_rows n l n (omega arith) named)
 
 -- a table's rows are followed by zeros
 hold_zeros : (l : List ℕ) (xs : List (Row Entry)) → Holds fields 11 l xs → all_zero (drop (get_or l 0 0 * 11 + 1) l) ≡ true
@@ -129,7 +139,7 @@ hold_zeros l xs h =
     rw e (rw h.is (rw (drop_at (flat fields xs) (zeros h.spare) (length xs * 11) (length_flat fields 11 wide xs)) (zeros_zero h.spare)))
 
 -- and their kinds are listed ones
-hold_listed : (l : List ℕ) (xs : List (Row Entry)) → Holds fields 11 l xs → Listed l (get_or l 0 0)
+pub hold_listed : (l : List ℕ) (xs : List (Row Entry)) → Holds fields 11 l xs → Listed l (get_or l 0 0)
 hold_listed l xs h i a =
     let d : Row Entry = row_at l 0 in
     ap listed (holds_word fields 11 wide l xs h i 1 d (rw h.count at a) (omega arith)) ∙ code_listed (get_or xs i d).it.kind
@@ -169,7 +179,7 @@ pub laid_formed : (a : List ℕ) → LaidOut a → Listed (words (table a)) (get
 laid_formed a k named = record {
   size = k.size;
   next = refl;
-  rows = stored fields 11 (table a) (decode a).rows (rows_hold (words (table a)) (omega (arith, k.few, table_size a k.size)) named k.zeros);
+  rows = stored fields 11 (table a) (decode a).rows (listed_hold (words (table a)) (omega (arith, k.few, table_size a k.size)) named k.zeros);
   rising = k.rising;
 }
 

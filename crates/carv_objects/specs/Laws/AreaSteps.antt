@@ -7,6 +7,7 @@ use mathlib.Core.List.{List, [], ◌∷◌, ◌++◌}
 use Rattle.carv_area.specs.Table.{Row, Rising, alter}
 use Rattle.std.specs.Bool.{then_some}
 use Rattle.carv_area.specs.Laws.Table.{rising_weaken, rising_snoc}
+use Rattle.carv_area.specs.Lists.{tab}
 use Rattle.carv_area.specs.Laws.Lists.{length_tab, get_or_tab}
 use Rattle.carv_area.specs.Words.{words}
 use Rattle.carv_area.specs.Laws.Words.{length_words}
@@ -16,8 +17,9 @@ use Rattle.carv_area.specs.Moves.{cut_row}
 use Rattle.carv_area.specs.Rows.{remove_at}
 use Rattle.carv_area.specs.Keys.{keys, find_in}
 use Rattle.carv_area.specs.Stored.{Stored, Keyed}
-use Rattle.carv_area.specs.Laws.Stored.{stored_room, stored_remove}
+use Rattle.carv_area.specs.Laws.Stored.{keyed_of, stored_remove}
 use Rattle.carv_area.specs.Lookup.{Located, Here, Gone}
+use Rattle.carv_area.specs.Laws.Lookup.{ids, located, rising_ids}
 use Rattle.carv_budget.proofs.Laws.Account.{first, second}
 use Rattle.carv_budget.specs.declared.Account.{Account}
 use Rattle.carv_budget.specs.Account.{figures}
@@ -26,7 +28,7 @@ use Rattle.carv_objects_spec.specs.declared.Entry.{Entry}
 use Rattle.carv_objects_spec.specs.Kinds.{is_budget_kind, kind_of}
 use Rattle.carv_objects_spec.specs.Registry.{Registry, or_missing, found, entry, has, is_budget, has_place, has_next, on_account, on_charge, budget, object}
 use Rattle.carv_objects.specs.Area.{head, table, fields, row_at, rows_in, decode, LaidOut}
-use Rattle.carv_objects.specs.Laws.Rows.{row, no_row, wide, set_account, row_at_is, rows_keyed, rows_located, row_room, row_written}
+use Rattle.carv_objects.specs.Laws.Rows.{row, no_row, wide, set_row, set_account, row_written, words_written}
 use Rattle.carv_objects.specs.Laws.Formed.{WellFormed, Leaves, leaves, leaves_as, length_head, length_table, table_written}
 
 abbrev pub with_next : ℕ → Registry → Registry
@@ -54,43 +56,50 @@ module _ {A : Type 0} where
   rising_remove (q ∷ m) l n zero u = rising_weaken m l (suc q.id) n (omega (arith, u.0)) u.1
   rising_remove (q ∷ m) l n (suc i) u = (u.0, rising_remove m (suc q.id) n i u.1)
 
--- The account that is read of an area that is laid out.
-module _ (a : List ℕ) (k : LaidOut a) (i : ℕ) (h : i < length (decode a).rows) where
-  inside : i < get_or (words (table a)) 0 0
+-- the keys of a table are the ids of the rows that are read of it one by one
+ids_read : {A : Type 0} (n : ℕ) (f : ℕ → ℕ) (g : ℕ → Row A) → ((i : ℕ) → f i ≡ (g i).id) → tab n f ≡ ids (tab n g)
+unfolding tab
+ids_read zero f g e = refl
+ids_read (suc n) f g e = λ t. e zero t ∷ ids_read n (λ i. f (suc i)) (λ i. g (suc i)) (λ i. e (suc i)) t
+
+pub keys_read : {A : Type 0} (w : ℕ) (l : List ℕ) (g : ℕ → Row A) → ((i : ℕ) → get_or l (i * w + 1) 0 ≡ (g i).id) → keys w l ≡ ids (tab (get_or l 0 0) g)
+unfolding keys
+keys_read w l g e = ids_read (get_or l 0 0) (λ i. get_or l (i * w + 1) 0) g e
+
+-- What is read of an area that is laid out.
+module _ (a : List ℕ) (k : LaidOut a) where
+  counted : get_or (words (table a)) 0 0 ≡ length (decode a).rows
   unfolding rows_in
-  inside = omega (arith, h, length_tab (get_or (words (table a)) 0 0) (row_at (words (table a))))
+  counted = sym (length_tab (get_or (words (table a)) 0 0) (row_at (words (table a))))
 
-  pub account_room : (i * 11 + 11) * 8 + 8 ≤ length (table a)
-  unfolding table
-  account_room = omega (arith, inside, k.few, length_table a k.size)
-
-  pub account_is : (x : Account) → x ≡ (row_at (words (table a)) i).it.account → x ≡ (get_or (decode a).rows i no_row).it.account
+  keyed : keys 11 (words (table a)) ≡ ids (decode a).rows
   unfolding rows_in
-  account_is x e = e ∙ ap (λ (r : Row Entry). r.it.account) (sym (get_or_tab (get_or (words (table a)) 0 0) (row_at (words (table a))) i no_row inside))
+  keyed = keys_read 11 (words (table a)) (row_at (words (table a))) (λ i. refl)
 
--- What is read of a well-formed area.
-module _ (a : List ℕ) (k : WellFormed a) where
   pub count_is : (n : ℕ) → n ≡ get_or (words (table a)) 0 0 → n ≡ length (decode a).rows
-  count_is n e = e ∙ k.rows.holds.count
-
-  pub table_keyed : Keyed 11 (table a)
-  table_keyed = rows_keyed (table a) (decode a).rows k.rows (decode a).next k.rising
-
-  pub found_is : (t : List ℕ) → t ≡ table a → (x : ℕ) (p : Option ℕ) → p ≡ find_in (keys 11 (words t)) x → Located no_row (decode a).rows x p
-  found_is t et x p e = rows_located (table a) (decode a).rows k.rows x p (rw et at e)
+  count_is n e = e ∙ counted
 
   pub remove_room : (get_or (words (table a)) 0 0 * 11 + 1) * 8 ≤ length (table a)
-  remove_room = stored_room fields 11 (table a) (decode a).rows k.rows
+  unfolding table
+  remove_room = omega (arith, k.few, length_table a k.size)
+
+  pub table_keyed : Keyed 11 (table a)
+  table_keyed = keyed_of 11 (table a) (omega arith) remove_room (rw keyed (rising_ids (decode a).rows 1 (decode a).next k.rising))
+
+  pub found_is : (t : List ℕ) → t ≡ table a → (x : ℕ) (p : Option ℕ) → p ≡ find_in (keys 11 (words t)) x → Located no_row (decode a).rows x p
+  found_is t et x p e = subst (Located no_row (decode a).rows x) (sym (rw et at e ∙ ap (λ (ks : List ℕ). find_in ks x) keyed)) (located no_row (decode a).rows x)
 
   pub remove_within : (i : ℕ) → i < length (decode a).rows → i < get_or (words (table a)) 0 0
-  remove_within i h = omega (arith, k.rows.holds.count)
+  remove_within i h = omega (arith, counted)
 
   module _ (i : ℕ) (h : i < length (decode a).rows) where
-    at_is : row_at (words (table a)) i ≡ get_or (decode a).rows i no_row
-    at_is = row_at_is (words (table a)) (decode a).rows k.rows.holds i h
+    pub at_is : row_at (words (table a)) i ≡ get_or (decode a).rows i no_row
+    unfolding rows_in
+    at_is = sym (get_or_tab (get_or (words (table a)) 0 0) (row_at (words (table a))) i no_row (remove_within i h))
 
     pub entry_room : (i * 11 + 11) * 8 + 8 ≤ length (table a)
-    entry_room = row_room (table a) (decode a).rows k.rows i h
+    unfolding table
+    entry_room = omega (arith, remove_within i h, k.few, length_table a k.size)
 
     pub id_is : (x : ℕ) → x ≡ get_or (words (table a)) (i * 11 + 1) 0 → x ≡ (get_or (decode a).rows i no_row).id
     id_is x e = e ∙ ap (λ (r : Row Entry). r.id) at_is
@@ -100,6 +109,9 @@ module _ (a : List ℕ) (k : WellFormed a) where
 
     pub kind_is : (n : ℕ) → n ≡ get_or (words (table a)) (i * 11 + 2) 0 → (x : Kind) → x ≡ kind_of n → x ≡ (get_or (decode a).rows i no_row).it.kind
     kind_is n e x q = q ∙ ap kind_of e ∙ ap (λ (r : Row Entry). r.it.kind) at_is
+
+    pub account_is : (x : Account) → x ≡ (row_at (words (table a)) i).it.account → x ≡ (get_or (decode a).rows i no_row).it.account
+    account_is x e = e ∙ ap (λ (r : Row Entry). r.it.account) at_is
 
     pub entry_is : (x : Entry) → x ≡ (row_at (words (table a)) i).it → x ≡ (get_or (decode a).rows i no_row).it
     entry_is x e = e ∙ ap (λ (r : Row Entry). r.it) at_is
@@ -124,23 +136,30 @@ next_set a a' k z n q up = leaves a' _ (record { size = z ∙ k.size; next = q.0
 -- What is left where the table was written, p.
 module _ (a : List ℕ) (k : WellFormed a) (p : List ℕ) where
   module _ (z : length p ≡ 45_064) where
+    -- the whole object at place i
+    pub entry_set : (i x : ℕ) (e : Entry) → i < length (decode a).rows → (get_or (decode a).rows i no_row).id ≡ x → words p ≡ set_row (words (table a)) i (row x e)
+        → Leaves (put_part 8 45_064 a p) (with_rows (set (decode a).rows i (row x e)) (decode a))
+    entry_set i x e h same q =
+        table_written a k p (set (decode a).rows i (row x e)) z (row_written (table a) p (decode a).rows k.rows i (row x e) h q)
+        (rising_set (decode a).rows 1 (decode a).next i no_row (row x e) k.rising (sym same))
+
     -- words of the object x, which stands at place i
     module _ (x i : ℕ) (h : Here no_row (decode a).rows x i) where
-      entry_set : (f : Entry → Entry) (c j : ℕ) (us : List ℕ) → c + length us ≤ 11 → j ≡ i * 11 + 1 + c
+      pub words_set : (f : Entry → Entry) (c j : ℕ) (us : List ℕ) → c + length us ≤ 11 → j ≡ i * 11 + 1 + c
           → fields (row (get_or (decode a).rows i no_row).id (f (get_or (decode a).rows i no_row).it)) ≡ sets (fields (get_or (decode a).rows i no_row)) c us
           → words p ≡ sets (words (table a)) j us → Leaves (put_part 8 45_064 a p) (with_rows (alter x f (decode a).rows) (decode a))
-      entry_set f c j us b ej q r =
+      words_set f c j us b ej q r =
           let e = f (get_or (decode a).rows i no_row).it in
-          let l = table_written a k p (set (decode a).rows i (row (get_or (decode a).rows i no_row).id e)) z (row_written (table a) p (decode a).rows k.rows i e c j us h.within b ej q r)
+          let l = table_written a k p (set (decode a).rows i (row (get_or (decode a).rows i no_row).id e)) z (words_written (table a) p (decode a).rows k.rows i e c j us h.within b ej q r)
           (rising_set (decode a).rows 1 (decode a).next i no_row (row (get_or (decode a).rows i no_row).id e) k.rising refl) in
           leaves_as _ _ _ (rw (h.changed f, h.same) refl) l
 
       pub account_set : (y : Account) → words p ≡ set_account (words (table a)) i y → Leaves (put_part 8 45_064 a p) (budget x (λ _. y) (decode a))
       unfolding set_account
-      account_set y q = entry_set (on_account (λ _. y)) 4 (i * 11 + 5) (figures y) (omega arith) (omega arith) refl q
+      account_set y q = words_set (on_account (λ _. y)) 4 (i * 11 + 5) (figures y) (omega arith) (omega arith) refl q
 
       pub charge_set : (n : ℕ) → words p ≡ set (words (table a)) (i * 11 + 4) n → Leaves (put_part 8 45_064 a p) (object x (λ _. n) (decode a))
-      charge_set n q = entry_set (on_charge (λ _. n)) 3 (i * 11 + 4) (n ∷ []) (omega arith) (omega arith) refl q
+      charge_set n q = words_set (on_charge (λ _. n)) 3 (i * 11 + 4) (n ∷ []) (omega arith) (omega arith) refl q
 
     pub entry_appended : (x : ℕ) (e : Entry) → Rising 1 (decode a).next ((decode a).rows ++ (row x e ∷ [])) → Stored fields 11 p ((decode a).rows ++ (row x e ∷ []))
         → Leaves (put_part 8 45_064 a p) (with_rows ((decode a).rows ++ (row x e ∷ [])) (decode a))

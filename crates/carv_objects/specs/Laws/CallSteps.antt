@@ -6,7 +6,6 @@ use Rattle.std.proofs.lemmas.List.{length-map}
 use Rattle.std.proofs.Math.ListN.{get_or-map}
 use Rattle.carv_area.specs.Table.{Row, Rising, at, alter}
 use Rattle.carv_area.specs.Laws.Table.{test, alter_known, erase_alter}
-use Rattle.carv_area.specs.Words.{words}
 use Rattle.carv_area.specs.Laws.Words.{word_below}
 use Rattle.carv_area.specs.Laws.Parts.{part_bytes}
 use Rattle.carv_area.specs.Rows.{remove_at}
@@ -28,11 +27,12 @@ use Rattle.carv_objects_spec.proofs.Laws.SoundLaws.{account_sound}
 use Rattle.carv_objects_spec.proofs.Laws.Steps.{ObjectEntry, budget_entry, at_on_account}
 use Rattle.carv_objects_spec.proofs.Laws.Kept as kept
 use Rattle.carv_objects_spec.proofs.Laws.Refines.{return_blank}
-use Rattle.carv_objects.specs.Area.{table, decode, sound_area, Serves}
-use Rattle.carv_objects.specs.Laws.Rows.{no_row, row_at_is}
-use Rattle.carv_objects.specs.Laws.Formed.{WellFormed, Leaves, leaves_as}
-use Rattle.carv_objects.specs.Laws.AreaSteps.{with_rows, here_entry, here_has, here_budget, here_other}
-use Rattle.carv_objects.specs.Laws.Calls.{area_sound, area_formed, refused, answered, budget_by, account_here, kept_at}
+use Rattle.carv_objects.specs.Area.{table, decode, LaidOut, sound_area, Serves}
+use Rattle.carv_objects.specs.Laws.Rows.{no_row}
+use Rattle.carv_objects.specs.Laws.AreaLaws.{sound_laid}
+use Rattle.carv_objects.specs.Laws.Formed.{Leaves, leaves_as}
+use Rattle.carv_objects.specs.Laws.AreaSteps.{at_is, with_rows, here_entry, here_has, here_budget, here_other}
+use Rattle.carv_objects.specs.Laws.Calls.{area_sound, refused, answered, budget_by, account_here, kept_at}
 use Rattle.carv_objects_spec.proofs.Laws.Questions as asks
 
 module _ {A : Type 0} where
@@ -126,11 +126,11 @@ module _ (r : Registry) (s : Sound r) (x i : ℕ) (h : Here no_row r.rows x i) (
         ∙ ap (λ (c : Entry). budget c.payer f (drop x r)) (sym object_read)
 
 -- the limit of an account is a word of the area
-pub limit_fits : (a : List ℕ) → WellFormed a → ((k : ℕ) → get_or a k 0 < 256) → (j : ℕ) → j < length (decode a).rows
+pub limit_fits : (a : List ℕ) → LaidOut a → ((k : ℕ) → get_or a k 0 < 256) → (j : ℕ) → j < length (decode a).rows
     → (get_or (decode a).rows j no_row).it.account.memory_limit < 2 ^ 64
 unfolding table
 limit_fits a k b j h =
-    subst (λ (t : Row Entry). t.it.account.memory_limit < 2 ^ 64) (row_at_is (words (table a)) (decode a).rows k.rows.holds j h)
+    subst (λ (t : Row Entry). t.it.account.memory_limit < 2 ^ 64) (at_is a k j h)
     (word_below (table a) (j * 11 + 6) (part_bytes 8 45_064 a (omega (arith, k.size)) b))
 
 -- The calls, of the object x at place i of a sound area, its entry e; its payer at place j, with the account y.
@@ -148,7 +148,7 @@ module _ (a : List ℕ) (s : sound_area a ≡ true) (x i : ℕ) (h : Here no_row
       omega (
         arith,
         charge_within_limit r S x i h e q j p y w n c,
-        limit_fits a (area_formed a s) b j p.within,
+        limit_fits a (sound_laid a s) b j p.within,
         ap (λ (z : Account). z.memory_limit) w,
       )
 

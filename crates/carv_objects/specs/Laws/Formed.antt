@@ -23,7 +23,7 @@ pub record Formed (a : List ℕ) (s : Registry) : Type 0 where
   pub rows : Stored fields 11 (table a) s.rows
   pub rising : Rising 1 s.next s.rows
 
--- what every inner function asks but `account_at`: it is laid out, and its kinds are listed (`laid_formed` and `formed_laid` of AreaLaws)
+-- what most inner functions ask: it is laid out, and its kinds are listed (`laid_formed`, `formed_laid` and `hold_listed` of AreaLaws)
 abbrev pub WellFormed : List ℕ → Type 0
 WellFormed a = Formed a (decode a)
 

@@ -8,7 +8,7 @@ use Rattle.carv_area.specs.Rows.{Holds}
 use Rattle.carv_area.specs.Laws.Rows.{holds_word}
 use Rattle.carv_area.specs.Keys.{keys, find_in}
 use Rattle.carv_area.specs.Stored.{Stored, Keyed}
-use Rattle.carv_area.specs.Laws.Stored.{rows_are, stored_some}
+use Rattle.carv_area.specs.Laws.Stored.{rows_are, stored_set, stored_some}
 use Rattle.carv_area.specs.Laws.Lookup as lookup
 use Rattle.carv_area.specs.Lookup.{Located}
 use Rattle.carv_budget.specs.declared.Account.{Account}
@@ -29,7 +29,11 @@ no_row = record { id = 0; it = missing }
 abbrev pub row : ℕ → Entry → Row Entry
 row i e = record { id = i; it = e }
 
--- the words l with the account a at place i
+-- the words l with the object r at place i
+unfoldable pub set_row : List ℕ → ℕ → Row Entry → List ℕ
+set_row l i r = sets l (i * 11 + 1) (fields r)
+
+-- and with the account a there
 unfoldable pub set_account : List ℕ → ℕ → Account → List ℕ
 set_account l i a = sets l (i * 11 + 5) (figures a)
 
@@ -71,8 +75,12 @@ pub row_room : (t : List ℕ) (rows : List (Row Entry)) → Stored fields 11 t r
 row_room t rows h i a = let s = h.holds.size in let z = h.size in omega arith
 
 module _ (t t' : List ℕ) (rows : List (Row Entry)) (h : Stored fields 11 t rows) where
+  pub row_written : (i : ℕ) (r : Row Entry) → i < length rows → words t' ≡ set_row (words t) i r → Stored fields 11 t' (set rows i r)
+  unfolding set_row
+  row_written i r a q = stored_set fields 11 wide t t' rows h i r a q
+
   -- words of the object at place i, of its words from number c on, which make its entry e
-  pub row_written : (i : ℕ) (e : Entry) (c k : ℕ) (us : List ℕ) → i < length rows → c + length us ≤ 11 → k ≡ i * 11 + 1 + c
+  pub words_written : (i : ℕ) (e : Entry) (c k : ℕ) (us : List ℕ) → i < length rows → c + length us ≤ 11 → k ≡ i * 11 + 1 + c
       → fields (row (get_or rows i no_row).id e) ≡ sets (fields (get_or rows i no_row)) c us → words t' ≡ sets (words t) k us
       → Stored fields 11 t' (set rows i (row (get_or rows i no_row).id e))
-  row_written i e c k us a b ek q r = stored_some fields 11 wide t t' rows h no_row i _ c k us a b ek q r
+  words_written i e c k us a b ek q r = stored_some fields 11 wide t t' rows h no_row i _ c k us a b ek q r

@@ -22,8 +22,9 @@ use Rattle.carv_objects_spec.proofs.Laws.Within.{payer_at, within_self, within_r
 use Rattle.carv_objects_spec.proofs.Laws.Totals.{over_inside, memory_total, cpu_total}
 use Rattle.carv_objects.specs.Area.{decode, sound_area}
 use Rattle.carv_objects.specs.Laws.Rows.{no_row}
+use Rattle.carv_objects.specs.Laws.AreaLaws.{sound_laid}
 use Rattle.carv_objects.specs.Laws.AreaSteps.{here_entry}
-use Rattle.carv_objects.specs.Laws.Calls.{area_sound, area_formed}
+use Rattle.carv_objects.specs.Laws.Calls.{area_sound}
 use Rattle.carv_objects.specs.Laws.CallSteps.{limit_fits}
 
 -- The marks of the first places: whether the object that stands there is within b.
@@ -170,7 +171,7 @@ ends r s b k marks u f l A h =
 module _ (a : List ℕ) (s : sound_area a ≡ true) (b j : ℕ) (H : Here no_row (decode a).rows b j) (live : is_budget (decode a) b ≡ true) (bytes : (k : ℕ) → get_or a k 0 < 256)
     (marks : List Bool) (u f l k : ℕ) (A : Passed (decode a) b marks u f l k) where
   limit : (account_of (decode a) b).memory_limit < 2 ^ 64
-  limit = omega (arith, limit_fits a (area_formed a s) bytes j H.within, ap (λ (e : Entry). e.account.memory_limit) (here_entry (decode a) b j H))
+  limit = omega (arith, limit_fits a (sound_laid a s) bytes j H.within, ap (λ (e : Entry). e.account.memory_limit) (here_entry (decode a) b j H))
 
   share : (account_of (decode a) b).cpu_allowance ≤ 10_000_000
   share = omega (arith, ((area_sound a s).each b (get_or (decode a).rows j no_row).it H.is).share, ap (λ (e : Entry). e.account.cpu_allowance) (here_entry (decode a) b j H))

@@ -1,5 +1,5 @@
 -- "Every code is a listed one", of a board's area: words of a thread or of an exit that are no listed codes make it unsound, and a sound area has the codes of each thread's
--- state, budget and space and of each exit's cause; how an area is laid out goes by no code. Assumes nothing.
+-- state, budget and space and of each exit's cause; how an area is laid out goes by no code of a thread or an exit. Assumes nothing.
 use Rattle.std.specs.Prelude.{◌≡◌, refl, true, false, List, ◌∷◌, ℕ, ◌+◌, ◌*◌, ◌^◌, ◌≤◌, ◌<◌, suc, length, slice_index, slice_index_or, set, Some}
 use Rattle.std.proofs.Common.{sym, ap, ◌∙◌, arith}
 use Rattle.std.proofs.lemmas.List.{get_or-set_other}
@@ -17,7 +17,7 @@ use Rattle.carv_scheduler_spec.specs.Scheduler.{in_spaces}
 use Rattle.carv_scheduler_spec.specs.Codes.{is_word, state_word, kind_word, number_word, id_word, space_word, cspace_word, root_word, cause_word}
 use Rattle.carv_scheduler_spec.proofs.Laws.Unsound.{record_with, the_threads, the_exits, with_8}
 use Rattle.carv_scheduler.specs.Area.{registry_part, threads_part, queue_part, exits_part, thread_fields, thread_at, threads_in, exit_fields, thread_listed, cause_listed_at, threads_listed, exits_listed, decode, sound_area}
-use Rattle.carv_objects.specs.Laws.AreaKinds.{rising_ids, count_kept, zeros_kept}
+use Rattle.carv_objects.specs.Laws.AreaKinds.{rising_alike, count_kept, zeros_kept}
 use Rattle.carv_scheduler.specs.Laws.Rows.{no_row, wide, no_exit, wide_exit}
 use Rattle.carv_scheduler.specs.Laws.Formed.{LaidOut}
 use Rattle.carv_scheduler.specs.Laws.Listed.{each_out, cause_words}
@@ -33,7 +33,7 @@ pub unlisted_cause_fails : (a : List ℕ) (i : ℕ) → i < slice_index (words (
 unlisted_cause_fails a i b h =
     test (sound_area a) (λ s. absurd (false≢true (sym h ∙ cause_words (words (exits_part a)) (asked_told a s).exits_listed i b))) (λ s. s)
 
--- An area that is laid out stays so whatever word is put for a code: what of a thread's row is no id, and the cause of an exit.
+-- An area that is laid out stays so whatever word is put for a code of a thread or an exit, and for any word of a thread's row that is no id.
 
 -- p is its threads with the word n for word c of the thread at place i
 pub any_thread_code : (a p : List ℕ) → LaidOut a → length p ≡ 21_512 → (i c n : ℕ) → i < slice_index (words (threads_part a)) 0 → 1 ≤ c → c < 21
@@ -54,7 +54,7 @@ any_thread_code a p k z i c n b c₁ c₂ q =
       registry = rw (part_before 45_088 21_512 a p fits z 0 45_072 (omega arith)) k.registry;
       few = rw (t, e) k.few;
       threads = rw (t, zeros_kept 21 l o n some inside) k.threads;
-      rising = rw (t, e) (rising_ids (slice_index l 0) 0 (2 ^ 64) (thread_at l) (thread_at (set l o n)) id k.rising);
+      rising = rw (t, e) (rising_alike (slice_index l 0) 0 (2 ^ 64) (thread_at l) (thread_at (set l o n)) id k.rising);
       count = rw (part_after 45_088 21_512 a p fits z 66_600 1_024 (omega arith)) k.count;
       queue = rw (part_after 45_088 21_512 a p fits z 66_600 1_024 (omega arith)) k.queue;
       logged = rw (part_after 45_088 21_512 a p fits z 67_624 520 (omega arith)) k.logged;

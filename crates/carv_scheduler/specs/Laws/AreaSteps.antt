@@ -1,10 +1,12 @@
 -- What the functions on one part of the board's area leave. Assumes nothing.
 use Rattle.std.specs.Prelude.{◌≡◌, ℕ, ◌+◌, ◌*◌, ◌/◌, ◌^◌, ◌<◌, ◌≤◌, List, length, get_or, slice_index, slice_index_or, slice_set, refl, Option, None}
-use Rattle.std.proofs.Common.{arith, sym, ◌∙◌, length-set}
+use Rattle.std.proofs.Common.{arith, sym, ◌∙◌, subst, length-set}
 use Rattle.std.proofs.Math.Path.{ap}
 use Rattle.std.proofs.Math.Seq.{get_or-set_same, get_or-set_other}
+use Rattle.std.proofs.Math.ListN.{length-map}
 use Rattle.carv_area.specs.Table.{Row, at, put}
 use Rattle.carv_area.specs.Laws.Table.{rising_put}
+use Rattle.carv_area.specs.Laws.Lists.{length_tab, get_or_tab}
 use Rattle.carv_area.specs.Words.{words}
 use Rattle.carv_area.specs.Laws.Words.{length_words}
 use Rattle.carv_area.specs.Parts.{part, put_part}
@@ -12,18 +14,20 @@ use Rattle.carv_area.specs.Laws.Parts.{length_part}
 use Rattle.carv_area.specs.Moves.{cut_row, open_row}
 use Rattle.carv_area.specs.Rows.{remove_at, insert_at}
 use Rattle.carv_area.specs.Keys.{keys, find_in}
+use Rattle.carv_area.specs.Laws.Keys.{length_keys}
 use Rattle.carv_area.specs.Stored.{Keyed}
-use Rattle.carv_area.specs.Laws.Stored.{stored_room, stored_set, stored_remove, stored_insert}
+use Rattle.carv_area.specs.Laws.Stored.{keyed_of, stored_set, stored_remove, stored_insert}
 use Rattle.carv_area.specs.Search.{rank_in}
-use Rattle.carv_area.specs.Laws.Lookup as lookup
+use Rattle.carv_area.specs.Laws.Search.{ranked}
+use Rattle.carv_area.specs.Laws.Lookup.{ids, located, rising_ids, put_insert}
 use Rattle.carv_area.specs.Lookup.{Located}
-use Rattle.carv_objects.specs.Laws.AreaSteps.{rising_set, rising_remove}
+use Rattle.carv_objects.specs.Laws.AreaSteps.{keys_read, rising_set, rising_remove}
 use Rattle.carv_scheduler_spec.specs.declared.State.{State}
 use Rattle.carv_scheduler_spec.specs.declared.Thread.{Thread}
 use Rattle.carv_scheduler_spec.specs.Scheduler.{Board, root_of}
-use Rattle.carv_scheduler.specs.Area.{head, threads_part, queue_part, thread_fields, state_at, budget_at, root_at, thread_at, decode}
-use Rattle.carv_scheduler.specs.Laws.Rows.{row, no_row, wide, set_thread, thread_at_is}
-use Rattle.carv_scheduler.specs.Laws.Formed.{WellFormed, Leaves, head_written, threads_written}
+use Rattle.carv_scheduler.specs.Area.{head, threads_part, queue_part, thread_fields, state_at, budget_at, root_at, thread_at, threads_in, decode}
+use Rattle.carv_scheduler.specs.Laws.Rows.{row, no_row, wide, set_thread}
+use Rattle.carv_scheduler.specs.Laws.Formed.{WellFormed, LaidOut, Leaves, head_written, threads_written}
 
 abbrev pub with_head : (current switches : ℕ) → Board → Board
 with_head current switches b = record { registry = b.registry; threads = b.threads; queue = b.queue; current = current; switches = switches; exits = b.exits }
@@ -59,43 +63,55 @@ pub record New (m : List (Row Thread)) (x : ℕ) : Type 0 where
   pub few : length m < 128
   pub fits : x < 2 ^ 64
 
--- What is read of a well-formed area.
-module _ (a : List ℕ) (k : WellFormed a) where
+-- What is read of an area that is laid out.
+module _ (a : List ℕ) (k : LaidOut a) where
+  counted : slice_index_or (words (threads_part a)) 0 0 ≡ length (decode a).threads
+  unfolding threads_in
+  counted = sym (length_tab (slice_index (words (threads_part a)) 0) (thread_at (words (threads_part a))))
+
+  keyed : keys 21 (words (threads_part a)) ≡ ids (decode a).threads
+  unfolding threads_in
+  keyed = keys_read 21 (words (threads_part a)) (thread_at (words (threads_part a))) (λ i. refl)
+
   pub thread_placed : (t : List ℕ) → t ≡ threads_part a → (x i : ℕ) → i ≡ rank_in (keys 21 (words t)) x → Placed (decode a).threads x i
   thread_placed t et x i e₀ =
-      let e = rw et at e₀ in
-      let r : at (decode a).threads x ≡ None → (i ≤ length (decode a).threads) × ((t : Thread) → put x t (decode a).threads ≡ insert_at (decode a).threads i (row x t)) =
-      λ n. lookup.rows_placed thread_fields 21 wide (λ r. refl) no_row (omega arith) (threads_part a) (decode a).threads k.threads x i e n in
-      record { within = λ n. (r n).0; is = λ n. (r n).1 }
+      let q : i ≡ rank_in (ids (decode a).threads) x = rw et at e₀ ∙ ap (λ (ks : List ℕ). rank_in ks x) keyed in
+      record {
+        within = λ n. omega (arith, (ranked (ids (decode a).threads) x).within, length-map (decode a).threads (λ r. r.id));
+        is = λ n t. rw q (put_insert (decode a).threads x t n);
+      }
 
   -- there is room for one more
   pub threads_space : length (decode a).threads < 128 → length (threads_part a) ≡ 21_512 → (slice_index (words (threads_part a)) 0 * 21 + 21 + 1) * 8 ≤ length (threads_part a)
-  threads_space h z = let c : get_or (words (threads_part a)) 0 0 ≡ length (decode a).threads = k.threads.holds.count in rw c (omega arith)
+  threads_space h z = omega (arith, counted)
 
   pub place_counted : (i : ℕ) → i ≤ length (decode a).threads → i ≤ slice_index (words (threads_part a)) 0
-  place_counted i h = omega (arith, k.threads.holds.count)
+  place_counted i h = omega (arith, counted)
 
   pub threads_count : (n : ℕ) → n ≡ slice_index (words (threads_part a)) 0 → n ≡ length (decode a).threads
-  threads_count n e = e ∙ k.threads.holds.count
-
-  pub threads_keyed : Keyed 21 (threads_part a)
-  threads_keyed = lookup.rows_keyed thread_fields 21 wide (λ r. refl) no_row (omega arith) (threads_part a) (decode a).threads k.threads 0 (2 ^ 64) k.rising
-
-  pub thread_found : (t : List ℕ) → t ≡ threads_part a → (x : ℕ) (p : Option ℕ) → p ≡ find_in (keys 21 (words t)) x → Located no_row (decode a).threads x p
-  thread_found t et x p e = lookup.rows_located thread_fields 21 wide (λ r. refl) no_row (omega arith) (threads_part a) (decode a).threads k.threads x p (rw et at e)
+  threads_count n e = e ∙ counted
 
   pub threads_room : (slice_index (words (threads_part a)) 0 * 21 + 1) * 8 ≤ length (threads_part a)
-  threads_room = stored_room thread_fields 21 (threads_part a) (decode a).threads k.threads
+  unfolding threads_part
+  threads_room = omega (arith, k.few, length_threads a k.size)
+
+  pub threads_keyed : Keyed 21 (threads_part a)
+  threads_keyed = keyed_of 21 (threads_part a) (omega arith) threads_room (rw keyed (rising_ids (decode a).threads 0 (2 ^ 64) k.rising))
+
+  pub thread_found : (t : List ℕ) → t ≡ threads_part a → (x : ℕ) (p : Option ℕ) → p ≡ find_in (keys 21 (words t)) x → Located no_row (decode a).threads x p
+  thread_found t et x p e = subst (Located no_row (decode a).threads x) (sym (rw et at e ∙ ap (λ (ks : List ℕ). find_in ks x) keyed)) (located no_row (decode a).threads x)
 
   pub thread_counted : (i : ℕ) → i < length (decode a).threads → i < slice_index (words (threads_part a)) 0
-  thread_counted i h = omega (arith, k.threads.holds.count)
+  thread_counted i h = omega (arith, counted)
 
   module _ (i : ℕ) (h : i < length (decode a).threads) where
     thread_is_at : thread_at (words (threads_part a)) i ≡ slice_index_or (decode a).threads i no_row
-    thread_is_at = thread_at_is (words (threads_part a)) (decode a).threads k.threads.holds i h
+    unfolding threads_in
+    thread_is_at = sym (get_or_tab (slice_index (words (threads_part a)) 0) (thread_at (words (threads_part a))) i no_row (thread_counted i h))
 
     pub thread_room : (i * 21 + 21) * 8 + 8 ≤ length (threads_part a)
-    thread_room = let s = k.threads.holds.size in let z = k.threads.size in omega arith
+    unfolding threads_part
+    thread_room = omega (arith, thread_counted i h, k.few, length_threads a k.size)
 
     pub thread_is : (x : Thread) → x ≡ (thread_at (words (threads_part a)) i).it → x ≡ (get_or (decode a).threads i no_row).it
     thread_is x e = e ∙ ap (λ (r : Row Thread). r.it) thread_is_at
@@ -137,7 +153,7 @@ module _ (a : List ℕ) (k : WellFormed a) (p : List ℕ) where
     unfolding set_thread
     thread_inserted i x t w n y q =
         threads_written a k p (put x t (decode a).threads) z
-        (rw (w.is n.fresh t) (stored_insert thread_fields 21 wide (threads_part a) p (decode a).threads k.threads i (row x t) (w.within n.fresh) (threads_space a k n.few y) q))
+        (rw (w.is n.fresh t) (stored_insert thread_fields 21 wide (threads_part a) p (decode a).threads k.threads i (row x t) (w.within n.fresh) (let c = k.threads.holds.count in omega (arith, n.few)) q))
         (rising_put (decode a).threads 0 (2 ^ 64) x t (omega arith) n.fits k.rising)
 
     pub thread_removed : (i : ℕ) → i < length (decode a).threads → words p ≡ cut_row 21 i (slice_index (words (threads_part a)) 0) (words (threads_part a))
@@ -147,9 +163,10 @@ module _ (a : List ℕ) (k : WellFormed a) (p : List ℕ) where
         (rising_remove (decode a).threads 0 (2 ^ 64) i k.rising)
 
 -- The queue.
-module _ (a : List ℕ) (k : WellFormed a) where
+module _ (a : List ℕ) (k : LaidOut a) where
   pub queue_count : (n : ℕ) → n ≡ slice_index (words (queue_part a)) 0 → n ≡ length (decode a).queue
-  queue_count n e = e ∙ k.queue.holds.count
+  queue_count n e = e ∙ sym (length_keys 1 (words (queue_part a)))
 
   pub queue_room : (i : ℕ) → i < length (decode a).queue → (i + 1) * 8 + 8 ≤ length (queue_part a)
-  queue_room i h = let s = k.queue.holds.size in let z = k.queue.size in omega arith
+  unfolding queue_part
+  queue_room i h = omega (arith, length_keys 1 (words (part 66_600 1_024 a)), k.count, length_queue a k.size)

@@ -36,7 +36,7 @@ abbrev pub WellFormed : List ℕ → Type 0
 WellFormed a = Formed a (decode a)
 
 -- The bytes a are laid out as a board's, whatever the codes of its threads and exits: their length, a sound registry, room for the rows of each table and zeros behind
--- them, and rising ids. With listed codes it is well formed: `laid_formed` and `formed_laid` of AreaLaws.
+-- them, and rising ids. Well formed is laid out with listed codes: `laid_formed` and `formed_laid` of AreaLaws, `threads_are_listed` and `exits_are_listed` of Listed.
 pub record LaidOut (a : List ℕ) : Type 0 where
   pub size : length a ≡ 68_144
   pub registry : objects.sound_area (registry_part a) ≡ true

@@ -1,25 +1,26 @@
 -- `carv_objects::area::id_at` meets its contract. Assumes nothing.
 use Rattle.std.proofs.Common.{arith}
 use Rattle.carv_objects.specs.Area.{table}
+use Rattle.carv_objects.specs.Laws.AreaLaws.{formed_laid}
 use Rattle.carv_objects.specs.Laws.AreaSteps.{entry_room, id_is}
 use Rattle.carv_objects.proofs.area.id_at.Goals as goal
 
 pub overflow_mul-i : goal.overflow_mul-i
 unfolding table
 overflow_mul-i c =
-    omega (arith, entry_room _ c.requires.well_formed _ c.requires.i_in_bounds)
+    omega (arith, entry_room _ (formed_laid _ c.requires.well_formed) _ c.requires.i_in_bounds)
 
 pub overflow_add-i : goal.overflow_add-i
 unfolding table
 overflow_add-i c =
-    omega (arith, entry_room _ c.requires.well_formed _ c.requires.i_in_bounds)
+    omega (arith, entry_room _ (formed_laid _ c.requires.well_formed) _ c.requires.i_in_bounds)
 
 pub get-requires : goal.get-requires
 unfolding table
 get-requires c =
-    omega (arith, entry_room _ c.requires.well_formed _ c.requires.i_in_bounds)
+    omega (arith, entry_room _ (formed_laid _ c.requires.well_formed) _ c.requires.i_in_bounds)
 
 pub returns : goal.returns
 unfolding table
 returns c =
-    id_is _ c.requires.well_formed _ c.requires.i_in_bounds _ c.get.ensures
+    id_is _ (formed_laid _ c.requires.well_formed) _ c.requires.i_in_bounds _ c.get.ensures
