@@ -93,8 +93,8 @@ module _ (a : List ℕ) (k : WellFormed a) (n : ℕ) (c : n ≡ length (decode a
   pub room_there : (n ≢ 32) → Leaves a (with_exits (spared (decode a).exits) (decode a))
   room_there e = rw (ne_eqb (length (decode a).exits) 32 (λ q. e (c ∙ q))) (unchanged a k)
 
-pub logged_room : (a a₁ : List ℕ) → LaidOut a → Leaves a₁ (with_exits (spared (decode a).exits) (decode a)) → length (decode a₁).exits < 32
-logged_room a a₁ k h = subst (λ (b : Board). length b.exits < 32) (sym h.is) (spared_few (decode a).exits (exits_few a k))
+pub logged_room : (a a₁ : List ℕ) → LaidOut a → decode a₁ ≡ with_exits (spared (decode a).exits) (decode a) → length (decode a₁).exits < 32
+logged_room a a₁ k e = subst (λ (b : Board). length b.exits < 32) (sym e) (spared_few (decode a).exits (exits_few a k))
 
 module _ (a a₁ : List ℕ) (k : WellFormed a) (h : Leaves a₁ (with_exits (spared (decode a).exits) (decode a))) where
   pub logged_left : (e : Exit Cause) (a₂ : List ℕ) → Leaves a₂ (with_exits ((decode a₁).exits ++ (e ∷ [])) (decode a₁)) → Leaves a₂ (with_exits (logged e (decode a).exits) (decode a))

@@ -31,7 +31,7 @@ pub record Formed (a : List ℕ) (s : Board) : Type 0 where
   pub queue : Queue (queue_part a) s.queue
   pub exits : Stored exit_fields 2 (exits_part a) s.exits
 
--- what every inner function asks
+-- what most inner functions ask
 abbrev pub WellFormed : List ℕ → Type 0
 WellFormed a = Formed a (decode a)
 

@@ -83,7 +83,7 @@ module _ (l : List ℕ) (rows : List (Row Thread)) (h : Holds thread_fields 21 l
       rw (e, w) (ap (λ (m : List ℕ). set_ticks m i (((get_or rows i no_row).it.ticks + 1) % 2 ^ 64)) (sym row_same)
       ∙ some_set l i (thread_fields (slice_index_or rows i no_row)) refl 20 (((get_or rows i no_row).it.ticks + 1) % 2 ^ 64 ∷ []) (omega arith) (i * 21 + 21) (omega arith))
 
--- What is read of a well-formed area, and left where one part was written, p.
+-- What is left of a well-formed area where one part was written, p.
 module _ (a : List ℕ) (k : WellFormed a) (i : ℕ) (h : i < length (decode a).threads) where
   module _ (p : List ℕ) (z : length p ≡ 21_512) where
     pub thread_state : (s : State) → words p ≡ set_state (words (threads_part a)) i s
