@@ -125,15 +125,17 @@ pub record Turn (time : ℕ) (a₀ : List ℕ) (n : ℕ) (a : List ℕ) (i : ℕ
 pub turn_starts : (time : ℕ) (a : List ℕ) → WellFormed a → (n : ℕ) → n ≡ length (decode a).queue → Turn time a n a 0
 turn_starts time a k n e = record { count = e; formed = k; same = refl; walking = walking_starts time (decode a).threads (decode a).queue (decode a).registry }
 
+-- a place is one of the queue, where the registry alone is another
+pub turn_within : (a₀ : List ℕ) (n : ℕ) (a : List ℕ) (i : ℕ) → n ≡ length (decode a₀).queue → decode a ≡ with_registry (decode a).registry (decode a₀)
+    → i < n → i < length (decode a).queue
+turn_within a₀ n a i c e h = let q = ap (λ (b : Board). length b.queue) e in omega (arith, c)
+
 module _ (time : ℕ) (a₀ : List ℕ) (n : ℕ) (a : List ℕ) (i : ℕ) (t : Turn time a₀ n a i) where
   same_threads : (decode a).threads ≡ (decode a₀).threads
   same_threads = ap (λ (b : Board). b.threads) t.same
 
   same_queue : (decode a).queue ≡ (decode a₀).queue
   same_queue = ap (λ (b : Board). b.queue) t.same
-
-  pub turn_within : i < n → i < length (decode a).queue
-  turn_within h = let e = ap (λ (q : List ℕ). length q) same_queue in omega (arith, t.count)
 
   module _ (h : i < n) (x : ℕ) (ex : x ≡ slice_index (decode a).queue i) (p : Option ℕ) (a₁ : List ℕ) (w : Tries time x a p a₁) where
     h₀ : i < length (decode a₀).queue
@@ -183,6 +185,14 @@ module _ (time : ℕ) (a₀ : List ℕ) (n : ℕ) (a : List ℕ) (i : ℕ) (t : 
       }
 
 -- The choice.
+
+-- the place that the walk found is one of the queue
+pub chooses_within : (time : ℕ) (a : List ℕ) (p : Option (ℕ × ℕ)) (a₁ : List ℕ) → queue_place p ≡ (walk_of time (decode a)).place
+    → decode a₁ ≡ with_registry (walk_of time (decode a)).registry (decode a) → (k i : ℕ) → p ≡ Some (k, i) → k < length (decode a₁).queue
+chooses_within time a p a₁ w s k i e =
+    let h = walk_within time (decode a).threads (decode a).queue (decode a).registry k (sym w ∙ ap queue_place e) in
+    subst (λ (b : Board). k < length b.queue) (sym s) h
+
 module _ (time : ℕ) (a : List ℕ) (p : Option (ℕ × ℕ)) (a₁ : List ℕ) (w : Walks time a p a₁) where
   walk_queue : (decode a₁).queue ≡ (decode a).queue
   walk_queue = ap (λ (b : Board). b.queue) w.area.is
@@ -194,11 +204,6 @@ module _ (time : ℕ) (a : List ℕ) (p : Option (ℕ × ℕ)) (a₁ : List ℕ)
   chosen_at q e =
       choose_walk time (decode a).threads (decode a).queue (decode a).registry
       ∙ ap (λ (f : Option ℕ). choice_at (decode a).queue f (walk_of time (decode a)).registry) (sym w.place ∙ e)
-
-  pub chooses_within : (k i : ℕ) → p ≡ Some (k, i) → k < length (decode a₁).queue
-  chooses_within k i e =
-      let h = walk_within time (decode a).threads (decode a).queue (decode a).registry k (sym w.place ∙ ap queue_place e) in
-      subst (λ (q : List ℕ). k < length q) (sym walk_queue) h
 
   pub chooses_at : (k i : ℕ) → p ≡ Some (k, i) → (x : ℕ) → x ≡ slice_index (decode a₁).queue k → (a₂ : List ℕ) → Leaves a₂ (with_queue (remove_at (decode a₁).queue k) (decode a₁))
       → Chooses time a (record { id = x; at = Some i }) a₂

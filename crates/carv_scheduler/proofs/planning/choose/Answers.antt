@@ -4,7 +4,7 @@ use Rattle.carv_scheduler.proofs.planning.choose.Goals as goal
 
 pub queue_pull-id-requires-clause-i_in_bounds : goal.queue_pull-id-requires-clause-i_in_bounds
 queue_pull-id-requires-clause-i_in_bounds c =
-    chooses_within _ _ _ _ c.walk.ensures _ _ c.in-Some.is
+    chooses_within _ _ _ _ c.walk.ensures.place c.walk.ensures.area.is _ _ c.in-Some.is
 
 pub returns-in-Some : goal.returns-in-Some
 returns-in-Some c =
