@@ -154,12 +154,12 @@ module _ (a : List ℕ) (k : WellFormed a) (p : List ℕ) where
           (rising_set (decode a).rows 1 (decode a).next i no_row (row (get_or (decode a).rows i no_row).id e) k.rising refl) in
           leaves_as _ _ _ (rw (h.changed f, h.same) refl) l
 
-      pub account_set : (y : Account) → words p ≡ set_account (words (table a)) i y → Leaves (put_part 8 45_064 a p) (budget x (λ _. y) (decode a))
+      pub account_written : (y : Account) → words p ≡ set_account (words (table a)) i y → Leaves (put_part 8 45_064 a p) (budget x (λ _. y) (decode a))
       unfolding set_account
-      account_set y q = words_set (on_account (λ _. y)) 4 (i * 11 + 5) (figures y) (omega arith) (omega arith) refl q
+      account_written y q = words_set (on_account (λ _. y)) 4 (i * 11 + 5) (figures y) (omega arith) (omega arith) refl q
 
-      pub charge_set : (n : ℕ) → words p ≡ set (words (table a)) (i * 11 + 4) n → Leaves (put_part 8 45_064 a p) (object x (λ _. n) (decode a))
-      charge_set n q = words_set (on_charge (λ _. n)) 3 (i * 11 + 4) (n ∷ []) (omega arith) (omega arith) refl q
+      pub charge_written : (n : ℕ) → words p ≡ set (words (table a)) (i * 11 + 4) n → Leaves (put_part 8 45_064 a p) (object x (λ _. n) (decode a))
+      charge_written n q = words_set (on_charge (λ _. n)) 3 (i * 11 + 4) (n ∷ []) (omega arith) (omega arith) refl q
 
     pub entry_appended : (x : ℕ) (e : Entry) → Rising 1 (decode a).next ((decode a).rows ++ (row x e ∷ [])) → Stored fields 11 p ((decode a).rows ++ (row x e ∷ []))
         → Leaves (put_part 8 45_064 a p) (with_rows ((decode a).rows ++ (row x e ∷ [])) (decode a))
@@ -201,6 +201,13 @@ module _ (r : Registry) (x i : ℕ) (h : Here no_row r.rows x i) where
 
     pub here_other : is_budget_kind e.kind ≡ false → BudgetAt r x None
     here_other k = here_kind false k
+
+    -- one field of the entry is written
+    pub account_set : (a : Account) → with_rows (set r.rows i (row x (record { kind = e.kind; payer = e.payer; charge = e.charge; account = a }))) r ≡ budget x (λ _. a) r
+    account_set a = rw q (ap (λ (m : List (Row Entry)). with_rows m r) (sym (h.changed (on_account (λ _. a)))))
+
+    pub charge_set : (n : ℕ) → with_rows (set r.rows i (row x (record { kind = e.kind; payer = e.payer; charge = n; account = e.account }))) r ≡ object x (λ _. n) r
+    charge_set n = rw q (ap (λ (m : List (Row Entry)). with_rows m r) (sym (h.changed (on_charge (λ _. n)))))
 
   -- and which of the two is asked of the kind there
   pub budget_told : (k : Kind) → k ≡ (get_or r.rows i no_row).it.kind → (b : Bool) → b ≡ is_budget_kind k → (p : Option ℕ) → p ≡ then_some b i → BudgetAt r x p

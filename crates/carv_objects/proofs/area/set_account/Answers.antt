@@ -3,7 +3,7 @@ use mathlib.Core.Path.{◌∙◌}
 use Rattle.carv_objects.specs.Area.{table}
 use Rattle.carv_objects.specs.Laws.Formed.{length_table}
 use Rattle.carv_objects.specs.Laws.AreaLaws.{formed_laid}
-use Rattle.carv_objects.specs.Laws.AreaSteps.{entry_room, account_set}
+use Rattle.carv_objects.specs.Laws.AreaSteps.{entry_room, account_written}
 use Rattle.carv_objects.proofs.area.set_account.Goals as goal
 
 pub write_account-requires : goal.write_account-requires
@@ -14,4 +14,4 @@ write_account-requires c =
 pub returns : goal.returns
 unfolding table
 returns c =
-    account_set _ c.requires.well_formed _ (c.write_account.auto.t ∙ length_table c.args.a.now c.requires.well_formed.size) _ _ c.requires.here _ c.write_account.ensures
+    account_written _ c.requires.well_formed _ (c.write_account.auto.t ∙ length_table c.args.a.now c.requires.well_formed.size) _ _ c.requires.here _ c.write_account.ensures

@@ -4,7 +4,7 @@ use mathlib.Core.Path.{◌∙◌}
 use Rattle.carv_objects.specs.Area.{table}
 use Rattle.carv_objects.specs.Laws.Formed.{length_table}
 use Rattle.carv_objects.specs.Laws.AreaLaws.{formed_laid}
-use Rattle.carv_objects.specs.Laws.AreaSteps.{entry_room, charge_set}
+use Rattle.carv_objects.specs.Laws.AreaSteps.{entry_room, charge_written}
 use Rattle.carv_objects.proofs.area.set_charge.Goals as goal
 
 pub overflow_mul-i : goal.overflow_mul-i
@@ -25,4 +25,4 @@ put-requires c =
 pub returns : goal.returns
 unfolding table
 returns c =
-    charge_set _ c.requires.well_formed _ (c.put.auto.a ∙ length_table c.args.a.now c.requires.well_formed.size) _ _ c.requires.here _ c.put.ensures.words
+    charge_written _ c.requires.well_formed _ (c.put.auto.a ∙ length_table c.args.a.now c.requires.well_formed.size) _ _ c.requires.here _ c.put.ensures.words
